@@ -1,0 +1,143 @@
+-- `readAt` takes the longest number at a place: no number there is longer, and what it takes is one.
+use mathlib.Core.Path.{_≡_, refl, sym, _∙_, ap, ap₂, subst}
+use mathlib.Core.Bool.{Bool, true, false}
+use mathlib.Core.List.{List, [], _∷_, _++_, append-nil, append-assoc}
+use Prim.Native.Nat.{ℕ, zero, suc, _+_, _≤_, _<_}
+use native.Mathlib.Nat.{add-zero}
+use native.Mathlib.Omega.{arith}
+use borrow.Author.Tests.{ne-eqb, eqb-true, eqb-false}
+use lib.Dec.{T, eqb, lit≤}
+use lib.ListN.{length, take, drop, length-append}
+use lib.Seq.{take-add, drop-append-seam}
+use lib.Ieee.Bits.{is-true}
+use Rattle.number.specs.declared.decimal.Decimal.{Decimal}
+use Rattle.number.specs.Decimal.{isDigit, digits, wholePart, fraction, withPoint, readAt, Digits⁺, IsWholePart, nought, counted, IsNumber, whole, pointed, taken, Longest}
+use Rattle.number.proofs.Law.Reading.{digits-more, digits-none, read-cases}
+
+-- ---- a number that a text begins with
+
+-- digits are read to their end, and on
+digits-over : (ds q : List ℕ) → Digits⁺ ds → digits (ds ++ q) ≡ ds ++ digits q
+digits-over [] q h = absurd h
+digits-over (b ∷ []) q h = digits-more b q (is-true _ h)
+digits-over (b ∷ c ∷ ds) q h = digits-more b (c ∷ ds ++ q) (is-true _ (h .0)) ∙ ap (λ (l : List ℕ). b ∷ l) (digits-over (c ∷ ds) q (h .1))
+
+-- and so is a whole part, unless it is 0
+whole-over : {w : List ℕ} → IsWholePart w → (q : List ℕ) → (t : List ℕ) × (wholePart (w ++ q) ≡ w ++ t) × (digits q ≡ [] → t ≡ [])
+unfolding wholePart
+whole-over nought q = ([], refl, λ e. refl)
+whole-over (counted {b} {bs} n h) q = (digits q, rw (wholePart, ne-eqb b 48 n) (digits-over (b ∷ bs) q h), λ e. e)
+
+digits-some : (ds : List ℕ) → Digits⁺ ds → 0 < length ds
+digits-some [] h = absurd h
+digits-some (b ∷ ds) h = omega arith
+
+whole-some : {w : List ℕ} → IsWholePart w → 0 < length w
+whole-some nought = lit≤ tt
+whole-some (counted n h) = omega arith
+
+with-point : (k : ℕ) → 0 < k → withPoint k ≡ suc k
+with-point zero h = omega arith
+with-point (suc k) h = refl
+
+-- how many bytes of a text `readAt` takes, where it begins with a digit
+abbrev size : List ℕ → ℕ
+size bs = length (wholePart bs) + withPoint (length (fraction (drop (length (wholePart bs)) bs)))
+
+number-fits : {p : List ℕ} → IsNumber p → (q : List ℕ) → (0 < length (wholePart (p ++ q))) × (length p ≤ size (p ++ q))
+unfolding fraction
+number-fits (whole {w} h) q =
+    let o = whole-over h q in
+    let e : length (wholePart (w ++ q)) ≡ length w + length (o .0) = ap length (o .1) ∙ length-append w (o .0) in
+    (omega (arith, whole-some h), omega arith)
+number-fits (pointed w f h d) q =
+    rw (append-assoc w (46 ∷ f) q)
+    (let o = whole-over h (46 ∷ (f ++ q)) in
+    let e : wholePart (w ++ 46 ∷ (f ++ q)) ≡ w = o .1 ∙ ap (λ (t : List ℕ). w ++ t) (o .2 (digits-none 46 (f ++ q) refl)) ∙ append-nil w in
+    let l : length (f ++ digits q) ≡ length f + length (digits q) = length-append f (digits q) in
+    let m : withPoint (length (f ++ digits q)) ≡ suc (length (f ++ digits q)) = with-point _ (omega (arith, digits-some f d)) in
+    rw (e, drop-append-seam w (46 ∷ (f ++ q)), digits-over f q d) (whole-some h, omega (arith, length-append w (46 ∷ f))))
+
+-- ---- what is taken of a text
+
+cons⁺ : (b : ℕ) (ds : List ℕ) → T (isDigit b) → (0 < length ds → Digits⁺ ds) → Digits⁺ (b ∷ ds)
+cons⁺ b [] h r = h
+cons⁺ b (c ∷ ds) h r = (h, r (omega arith))
+
+digits-are : (bs : List ℕ) → 0 < length (digits bs) → Digits⁺ (digits bs)
+unfolding digits
+digits-are [] h = omega arith
+digits-are (b ∷ bs) h = go (isDigit b) refl (digits-are bs)
+  where
+    go : (t : Bool) → isDigit b ≡ t → (0 < length (digits bs) → Digits⁺ (digits bs)) → Digits⁺ (digits (b ∷ bs))
+    go true e r = rw (digits-more b bs e) (cons⁺ b (digits bs) (subst T (sym e) tt) r)
+    go false e r = absurd (omega (arith, ap length (digits-none b bs e)))
+
+take-digits : (bs : List ℕ) → take (length (digits bs)) bs ≡ digits bs
+unfolding digits
+take-digits [] = refl
+take-digits (b ∷ bs) = go (isDigit b) refl (take-digits bs)
+  where
+    go : (t : Bool) → isDigit b ≡ t → take (length (digits bs)) bs ≡ digits bs → take (length (digits (b ∷ bs))) (b ∷ bs) ≡ digits (b ∷ bs)
+    go true e r = rw (digits-more b bs e) (ap (λ (l : List ℕ). b ∷ l) r)
+    go false e r = rw (digits-none b bs e)
+
+take-whole : (bs : List ℕ) → take (length (wholePart bs)) bs ≡ wholePart bs
+unfolding wholePart
+take-whole [] = refl
+take-whole (b ∷ bs) = go (eqb b 48) refl
+  where
+    go : (t : Bool) → eqb b 48 ≡ t → take (length (wholePart (b ∷ bs))) (b ∷ bs) ≡ wholePart (b ∷ bs)
+    go true e = rw (wholePart, e)
+    go false e = rw (wholePart, e) (take-digits (b ∷ bs))
+
+whole-is : (bs : List ℕ) → 0 < length (wholePart bs) → IsWholePart (wholePart bs)
+unfolding wholePart
+whole-is [] h = absurd (omega arith)
+whole-is (b ∷ bs) h = go (eqb b 48) (isDigit b) refl refl
+  where
+    go : (t u : Bool) → eqb b 48 ≡ t → isDigit b ≡ u → IsWholePart (wholePart (b ∷ bs))
+    go true u e k = rw (wholePart, e, eqb-true b 48 e) nought
+    go false true e k = rw (wholePart, e, digits-more b bs k) (counted (eqb-false b 48 e) (rw (digits-more b bs k) at (digits-are (b ∷ bs) (rw (digits-more b bs k) (omega arith)))))
+    go false false e k = absurd (omega (arith, ap length (digits-none b bs k), rw (wholePart, e) at h))
+
+point-is : (bs : List ℕ) → 0 < length (fraction bs) → (take (suc (length (fraction bs))) bs ≡ 46 ∷ fraction bs) × Digits⁺ (fraction bs)
+unfolding fraction
+point-is [] h = absurd (omega arith)
+point-is (b ∷ bs) h = go (eqb b 46) refl
+  where
+    go : (t : Bool) → eqb b 46 ≡ t → (take (suc (length (fraction (b ∷ bs)))) (b ∷ bs) ≡ 46 ∷ fraction (b ∷ bs)) × Digits⁺ (fraction (b ∷ bs))
+    go true e = rw (fraction, e) (ap₂ (λ (c : ℕ) (l : List ℕ). c ∷ l) (eqb-true b 46 e) (take-digits bs), digits-are bs (rw (fraction, e) at h))
+    go false e = absurd (omega (arith, rw (fraction, e) at h))
+
+number-is : (bs : List ℕ) → 0 < length (wholePart bs) → IsNumber (take (size bs) bs)
+number-is bs h = go (length (fraction rest)) refl
+  where
+    rest : List ℕ
+    rest = drop (length (wholePart bs)) bs
+
+    go : (l : ℕ) → length (fraction rest) ≡ l → IsNumber (take (length (wholePart bs) + withPoint (length (fraction rest))) bs)
+    go zero e = rw (e, add-zero, take-whole bs) (whole (whole-is bs h))
+    go (suc l) e =
+        let p = point-is rest (omega arith) in
+        rw (with-point (length (fraction rest)) (omega arith), take-add (length (wholePart bs)) _ bs, take-whole bs, p .0)
+        (pointed (wholePart bs) (fraction rest) (whole-is bs h) (p .1))
+
+-- ---- the longest number
+
+takes : (text : List ℕ) (at : ℕ) (d : Decimal) → taken at d ≡ size (drop at text) → 0 < length (wholePart (drop at text)) → Longest text at d
+takes text at d e h =
+    record {
+      none-longer = λ p q k n. rw (e, ← k) (number-fits n q .1);
+      is-number = λ _. rw e (number-is (drop at text) h);
+    }
+
+pub longest : (text : List ℕ) (at : ℕ) → Longest text at (readAt text at)
+longest text at =
+    read-cases (Longest text at) text at
+    (λ z. record {
+      none-longer = λ p q k n. absurd (omega (arith, z, rw k at (number-fits n q .0)));
+      is-number = λ h. absurd (h refl);
+    })
+    (λ some few. takes text at _ (omega arith) some)
+    (λ some. takes text at _ (omega arith) some)

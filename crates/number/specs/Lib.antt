@@ -1,0 +1,5 @@
+pub mod Decimal
+pub mod Rounding
+pub mod Arithmetic
+pub mod Colour
+pub mod Inner

@@ -1,0 +1,146 @@
+// Cases of literals: a line has a text, a place in it, and what stands there.
+use crate::line;
+use crate::report;
+use number::bits::to_bits;
+use number::decimal;
+use number::decimal::Decimal;
+
+// What stands at a place: 0 nothing, 1 a number, 2 a number that is too long.
+pub(crate) struct Answer {
+    pub(crate) kind: u64,
+    pub(crate) end: u64,
+    pub(crate) digits: u64,
+    pub(crate) places: u64,
+    pub(crate) value: u64,
+    pub(crate) negated: u64,
+}
+
+pub(crate) const LINE: usize = 177;
+
+const TEXT: usize = 40;
+
+const WORD: usize = 17;
+
+// Where each word of a line starts, behind the text.
+const LENGTH: usize = 41;
+
+const PLACE: usize = 58;
+
+const KIND: usize = 75;
+
+const END: usize = 92;
+
+const DIGITS: usize = 109;
+
+const PLACES: usize = 126;
+
+const VALUE: usize = 143;
+
+const NEGATED: usize = 160;
+
+fn found(text: &[u8], at: usize) -> Answer {
+    match decimal::read(text, at) {
+        Decimal::Nothing => Answer {
+            kind: 0,
+            end: 0,
+            digits: 0,
+            places: 0,
+            value: 0,
+            negated: 0,
+        },
+        Decimal::Number {
+            end,
+            digits,
+            places,
+        } => Answer {
+            kind: 1,
+            end: end as u64,
+            digits,
+            places: places as u64,
+            value: to_bits(decimal::value(false, digits, places)),
+            negated: to_bits(decimal::value(true, digits, places)),
+        },
+        Decimal::TooLong { end } => Answer {
+            kind: 2,
+            end: end as u64,
+            digits: 0,
+            places: 0,
+            value: 0,
+            negated: 0,
+        },
+    }
+}
+
+fn is_same(a: Answer, b: Answer) -> bool {
+    (a.kind == b.kind)
+        & (a.end == b.end)
+        & (a.digits == b.digits)
+        & (a.places == b.places)
+        & (a.value == b.value)
+        & (a.negated == b.negated)
+}
+
+// A word with another behind it.
+fn word(text: &[u8], from: usize) -> u64 {
+    line::number(line::word_at(text, from, b' '))
+}
+
+fn is_well_formed(text: &[u8]) -> bool {
+    let mut at = LENGTH;
+    while at < NEGATED {
+        if !line::is_number(line::word_at(text, at, b' ')) {
+            return false;
+        }
+        at += WORD;
+    }
+    line::is_number(line::word_at(text, NEGATED, b'\n'))
+}
+
+fn expected(text: &[u8]) -> Answer {
+    Answer {
+        kind: word(text, KIND),
+        end: word(text, END),
+        digits: word(text, DIGITS),
+        places: word(text, PLACES),
+        value: word(text, VALUE),
+        negated: line::number(line::word_at(text, NEGATED, b'\n')),
+    }
+}
+
+fn print(a: Answer) {
+    report::field(b" ", a.kind);
+    report::field(b" ", a.end);
+    report::field(b" ", a.digits);
+    report::field(b" ", a.places);
+    report::field(b" ", a.value);
+    report::field(b" ", a.negated);
+}
+
+// Whether a case agrees. A line that is malformed does not.
+pub(crate) fn is_right(name: &[u8], text: &[u8]) -> bool {
+    let length = word(text, LENGTH) as usize;
+    if is_well_formed(text) & (length <= TEXT) {
+        if length <= text.len() {
+            return agrees(name, &text[0..length], word(text, PLACE), expected(text));
+        }
+    }
+    report::malformed(name, text);
+    false
+}
+
+fn agrees(name: &[u8], text: &[u8], at: u64, wanted: Answer) -> bool {
+    let got = found(text, at as usize);
+    if is_same(got, wanted) {
+        return true;
+    }
+    report::text(name);
+    report::text(b" text ");
+    report::text(text);
+    report::field(b" at ", at);
+    report::text(b" expected");
+    print(wanted);
+    report::text(b" got");
+    print(got);
+    report::text(b"\n");
+    false
+}
