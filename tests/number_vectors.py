@@ -14,15 +14,14 @@ of its digits, the digits after the point, the value, and the value with a `-` b
 """
 import json
 import math
-import os
 import random
 import re
 import struct
 import subprocess
 from fractions import Fraction
 
-HERE = os.path.dirname(os.path.abspath(__file__))
-DATA = os.path.join(HERE, '..', 'crates', 'number_cases', 'data')
+from case_files import write
+
 SEED = 1
 TEXT_WIDTH = 40
 MOST_DIGITS = 15
@@ -460,21 +459,7 @@ def main():
 
     files = {name: [number_line(row, result) for row, result in zip(rows, results[name])] for name, (_, rows) in groups.items()}
     files['literals'] = [literal_line(t, at) for t, at in texts]
-    write(files)
-
-
-def write(files):
-    """The cases, and what the program has to print of them: no differences."""
-    os.makedirs(DATA, exist_ok=True)
-    for name, lines in files.items():
-        with open(os.path.join(DATA, name), 'wb') as out:
-            out.write(b''.join(lines))
-    counts = [(name, len(lines)) for name, lines in files.items()]
-    counts.append(('total', sum(count for _, count in counts)))
-    report = ''.join('%s: %d cases, 0 differences\n' % pair for pair in counts)
-    with open(os.path.join(DATA, '..', 'stdout'), 'w') as out:
-        out.write(report)
-    print(report, end='')
+    write('number_cases', files)
 
 
 if __name__ == '__main__':

@@ -41,7 +41,7 @@ with-point zero h = omega arith
 with-point (suc k) h = refl
 
 -- how many bytes of a text `readAt` takes, where it begins with a digit
-abbrev size : List ℕ → ℕ
+abbrev pub size : List ℕ → ℕ
 size bs = length (wholePart bs) + withPoint (length (fraction (drop (length (wholePart bs)) bs)))
 
 number-fits : {p : List ℕ} → IsNumber p → (q : List ℕ) → (0 < length (wholePart (p ++ q))) × (length p ≤ size (p ++ q))
@@ -110,18 +110,25 @@ point-is (b ∷ bs) h = go (eqb b 46) refl
     go true e = rw (fraction, e) (ap₂ (λ (c : ℕ) (l : List ℕ). c ∷ l) (eqb-true b 46 e) (take-digits bs), digits-are bs (rw (fraction, e) at h))
     go false e = absurd (omega (arith, rw (fraction, e) at h))
 
-number-is : (bs : List ℕ) → 0 < length (wholePart bs) → IsNumber (take (size bs) bs)
-number-is bs h = go (length (fraction rest)) refl
+-- What is taken of a text is a whole part, or one with a point and digits after it: whatever holds of both holds of the text taken, its whole part and its digits after the point.
+pub number-parts : (P : List ℕ → List ℕ → List ℕ → Type 0) (bs : List ℕ) → ((w : List ℕ) → IsWholePart w → P w w []) →
+    ((w f : List ℕ) → IsWholePart w → Digits⁺ f → P (w ++ 46 ∷ f) w f) → 0 < length (wholePart bs) →
+    P (take (size bs) bs) (wholePart bs) (fraction (drop (length (wholePart bs)) bs))
+number-parts P bs p q h = go (fraction rest) refl
   where
     rest : List ℕ
     rest = drop (length (wholePart bs)) bs
 
-    go : (l : ℕ) → length (fraction rest) ≡ l → IsNumber (take (length (wholePart bs) + withPoint (length (fraction rest))) bs)
-    go zero e = rw (e, add-zero, take-whole bs) (whole (whole-is bs h))
-    go (suc l) e =
-        let p = point-is rest (omega arith) in
-        rw (with-point (length (fraction rest)) (omega arith), take-add (length (wholePart bs)) _ bs, take-whole bs, p .0)
-        (pointed (wholePart bs) (fraction rest) (whole-is bs h) (p .1))
+    go : (f : List ℕ) → fraction rest ≡ f → P (take (size bs) bs) (wholePart bs) (fraction rest)
+    go [] e = rw (e, add-zero, take-whole bs) (p (wholePart bs) (whole-is bs h))
+    go (d ∷ ds) e =
+        let l : length (fraction rest) ≡ suc (length ds) = ap length e in
+        let i = point-is rest (omega arith) in
+        rw (with-point (length (fraction rest)) (omega arith), take-add (length (wholePart bs)) _ bs, take-whole bs, i .0)
+        (q (wholePart bs) (fraction rest) (whole-is bs h) (i .1))
+
+number-is : (bs : List ℕ) → 0 < length (wholePart bs) → IsNumber (take (size bs) bs)
+number-is bs = number-parts (λ s w f. IsNumber s) bs (λ w h. whole h) (λ w f h d. pointed w f h d)
 
 -- ---- the longest number
 
@@ -140,4 +147,15 @@ longest text at =
       is-number = λ h. absurd (h refl);
     })
     (λ some few. takes text at _ (omega arith) some)
-    (λ some. takes text at _ (omega arith) some)
+    (λ some many. takes text at _ (omega arith) some)
+
+-- ---- a number begins with a digit
+
+pub whole-digit : (b : ℕ) (bs : List ℕ) → 0 < length (wholePart (b ∷ bs)) → isDigit b ≡ true
+unfolding wholePart
+whole-digit b bs h = go (eqb b 48) (isDigit b) refl refl
+  where
+    go : (t u : Bool) → eqb b 48 ≡ t → isDigit b ≡ u → isDigit b ≡ true
+    go true u e k = ap isDigit (eqb-true b 48 e)
+    go false true e k = k
+    go false false e k = absurd (omega (arith, ap length (digits-none b bs k), rw (wholePart, e) at h))

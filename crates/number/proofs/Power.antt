@@ -84,7 +84,7 @@ read-small text at end n k =
     let whole : joined 0 (w ++ f) ≡ n = cc in
     let below : joined 0 (w ++ f) < 10 ^ (length w + length f) = rw (joined-append 0 w f) (fraction-lt _ (joined 0 w) (length w) (whole-lt (drop at text))) in
     (subst (λ (z : ℕ). z < 10 ^ 15) whole (lt-of-lt-of-le below (pow-le-pow-right (lit< tt) few)), omega arith))
-    (λ some e. let no : _≡_ {A = ℕ} 0 1 = cc in omega arith)
+    (λ some many e. let no : _≡_ {A = ℕ} 0 1 = cc in omega arith)
 
 -- the value of a number that is read
 pub literal-value : (text : List ℕ) (at end n k : ℕ) (s : Bool) → readAt text at ≡ Number end n k → valueOf s n k ≡ round binary64 s n (10 ^ k)

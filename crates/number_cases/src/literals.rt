@@ -1,6 +1,6 @@
 // Cases of literals: a line has a text, a place in it, and what stands there.
-use crate::line;
 use crate::report;
+use cases::line;
 use number::bits::to_bits;
 use number::decimal;
 use number::decimal::Decimal;
@@ -18,25 +18,6 @@ pub(crate) struct Answer {
 pub(crate) const LINE: usize = 177;
 
 const TEXT: usize = 40;
-
-const WORD: usize = 17;
-
-// Where each word of a line starts, behind the text.
-const LENGTH: usize = 41;
-
-const PLACE: usize = 58;
-
-const KIND: usize = 75;
-
-const END: usize = 92;
-
-const DIGITS: usize = 109;
-
-const PLACES: usize = 126;
-
-const VALUE: usize = 143;
-
-const NEGATED: usize = 160;
 
 fn found(text: &[u8], at: usize) -> Answer {
     match decimal::read(text, at) {
@@ -80,30 +61,24 @@ fn is_same(a: Answer, b: Answer) -> bool {
         & (a.negated == b.negated)
 }
 
-// A word with another behind it.
-fn word(text: &[u8], from: usize) -> u64 {
-    line::number(line::word_at(text, from, b' '))
-}
-
+// The text's field and eight words: the text's length, the place, and the answer.
 fn is_well_formed(text: &[u8]) -> bool {
-    let mut at = LENGTH;
-    while at < NEGATED {
-        if !line::is_number(line::word_at(text, at, b' ')) {
-            return false;
-        }
-        at += WORD;
-    }
-    line::is_number(line::word_at(text, NEGATED, b'\n'))
+    line::fits(
+        text,
+        b"???????????????????????????????????????? \
+          hhhhhhhhhhhhhhhh hhhhhhhhhhhhhhhh hhhhhhhhhhhhhhhh hhhhhhhhhhhhhhhh \
+          hhhhhhhhhhhhhhhh hhhhhhhhhhhhhhhh hhhhhhhhhhhhhhhh hhhhhhhhhhhhhhhh\n",
+    )
 }
 
 fn expected(text: &[u8]) -> Answer {
     Answer {
-        kind: word(text, KIND),
-        end: word(text, END),
-        digits: word(text, DIGITS),
-        places: word(text, PLACES),
-        value: word(text, VALUE),
-        negated: line::number(line::word_at(text, NEGATED, b'\n')),
+        kind: line::number(text, 75, 91),
+        end: line::number(text, 92, 108),
+        digits: line::number(text, 109, 125),
+        places: line::number(text, 126, 142),
+        value: line::number(text, 143, 159),
+        negated: line::number(text, 160, 176),
     }
 }
 
@@ -118,10 +93,11 @@ fn print(a: Answer) {
 
 // Whether a case agrees. A line that is malformed does not.
 pub(crate) fn is_right(name: &[u8], text: &[u8]) -> bool {
-    let length = word(text, LENGTH) as usize;
+    let length = line::number(text, 41, 57) as usize;
+    let at = line::number(text, 58, 74);
     if is_well_formed(text) & (length <= TEXT) {
         if length <= text.len() {
-            return agrees(name, &text[0..length], word(text, PLACE), expected(text));
+            return agrees(name, &text[0..length], at, expected(text));
         }
     }
     report::malformed(name, text);

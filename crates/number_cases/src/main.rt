@@ -1,34 +1,15 @@
 // Works out the cases of data/ by the crate number and compares, bit for bit. For each file it
 // prints how many cases there are and how many differ, and each difference on a line of its own.
-mod line;
 mod literals;
 mod numbers;
 mod report;
 
+use cases::tally;
+use cases::tally::Outcome;
+use cases::tally::Tally;
+use cases::tally::compared;
+use cases::tally::sum;
 use numbers::Function;
-
-// Cases of a file, or of all.
-pub(crate) struct Tally {
-    pub(crate) cases: u64,
-    pub(crate) differences: u64,
-}
-
-enum Outcome {
-    End,
-    Same,
-    Different,
-}
-
-// No file has as many. Nothing says that a file ends, so the loop that reads it counts.
-const MOST_CASES: u64 = 1_000_000;
-
-fn compared(is_same: bool) -> Outcome {
-    if is_same {
-        Outcome::Same
-    } else {
-        Outcome::Different
-    }
-}
 
 fn next_number(fd: i32, name: &[u8], f: Function) -> Outcome {
     let mut buffer = [0u8; numbers::LINE];
@@ -57,42 +38,27 @@ fn next(fd: i32, name: &[u8], f: Function) -> Outcome {
 }
 
 fn count_cases(fd: i32, name: &[u8], f: Function) -> Tally {
-    let mut cases: u64 = 0;
-    let mut differences: u64 = 0;
-    while cases < MOST_CASES {
+    let mut t = tally::NONE;
+    for _ in 0..tally::MOST_CASES {
         let o = next(fd, name, f);
-        match o {
-            Outcome::End => return Tally { cases, differences },
-            Outcome::Same => {}
-            Outcome::Different => differences += 1,
+        if let Outcome::End = o {
+            return t;
         }
-        cases += 1;
+        t = tally::with(t, o);
     }
-    Tally { cases, differences }
+    t
 }
 
-// A file that cannot be opened is a difference.
 fn run(name: &[u8], f: Function) -> Tally {
     let fd = os::open_read(name);
     if fd < 0 {
         report::missing(name);
-        return Tally {
-            cases: 0,
-            differences: 1,
-        };
+        return tally::MISSING;
     }
     let t = count_cases(fd, name, f);
     libc::close(fd);
-    report::counts(name, t.cases, t.differences);
+    report::counts(name, t);
     t
-}
-
-// A sum of counts is far from where it would wrap.
-fn sum(a: Tally, b: Tally) -> Tally {
-    Tally {
-        cases: std::num::wrapping_add_u64(a.cases, b.cases),
-        differences: std::num::wrapping_add_u64(a.differences, b.differences),
-    }
 }
 
 fn roundings() -> Tally {
@@ -122,5 +88,5 @@ fn others() -> Tally {
 
 fn main() {
     let t = sum(sum(roundings(), arithmetic()), others());
-    report::counts(b"total", t.cases, t.differences);
+    report::counts(b"total", t);
 }

@@ -1,6 +1,6 @@
 // Cases of a function of up to three numbers: a line has its arguments and its result.
-use crate::line;
 use crate::report;
+use cases::line;
 use number::arithmetic;
 use number::bits::from_bits;
 use number::bits::to_bits;
@@ -40,7 +40,7 @@ pub(crate) struct Case {
 fn worked_out(f: Function, x: u64, y: u64, z: u64) -> u64 {
     match f {
         Function::Byte => byte(from_bits(x)),
-        Function::Value => to_bits(decimal::value(x == 1, y, low_byte(z))),
+        Function::Value => to_bits(decimal::value(x == 1, y, line::low_byte(z))),
         Function::Read => 0,
         _ => to_bits(number_of(f, from_bits(x), from_bits(y), from_bits(z))),
     }
@@ -70,17 +70,10 @@ fn byte(x: f64) -> u64 {
     colour::byte(colour::component(x)) as u64
 }
 
-fn low_byte(x: u64) -> u8 {
-    (x % 256) as u8
-}
-
-// Whether a case agrees. A line that is malformed does not. Its words start 17 bytes apart.
+// Whether a case agrees. A line that is malformed does not.
 pub(crate) fn is_right(name: &[u8], f: Function, text: &[u8]) -> bool {
-    let x = line::word_at(text, 0, b' ');
-    let y = line::word_at(text, 17, b' ');
-    let z = line::word_at(text, 34, b' ');
-    let result = line::word_at(text, 51, b'\n');
-    if !(line::is_number(x) & line::is_number(y) & line::is_number(z) & line::is_number(result)) {
+    let form = b"hhhhhhhhhhhhhhhh hhhhhhhhhhhhhhhh hhhhhhhhhhhhhhhh hhhhhhhhhhhhhhhh\n";
+    if !line::fits(text, form) {
         report::malformed(name, text);
         return false;
     }
@@ -88,10 +81,10 @@ pub(crate) fn is_right(name: &[u8], f: Function, text: &[u8]) -> bool {
         name,
         f,
         Case {
-            x: line::number(x),
-            y: line::number(y),
-            z: line::number(z),
-            result: line::number(result),
+            x: line::number(text, 0, 16),
+            y: line::number(text, 17, 33),
+            z: line::number(text, 34, 50),
+            result: line::number(text, 51, 67),
         },
     )
 }

@@ -1,4 +1,5 @@
 // What the program writes to standard output.
+use cases::tally::Tally;
 use libc::STDOUT_FILENO;
 
 pub(crate) fn text(bytes: &[u8]) {
@@ -10,12 +11,12 @@ pub(crate) fn field(label: &[u8], value: u64) {
     io::print_hex(STDOUT_FILENO, value, 16);
 }
 
-pub(crate) fn counts(name: &[u8], cases: u64, differences: u64) {
+pub(crate) fn counts(name: &[u8], t: Tally) {
     text(name);
     text(b": ");
-    io::print_decimal(STDOUT_FILENO, cases);
+    io::print_decimal(STDOUT_FILENO, t.cases);
     text(b" cases, ");
-    io::print_decimal(STDOUT_FILENO, differences);
+    io::print_decimal(STDOUT_FILENO, t.differences);
     text(b" differences\n");
 }
 

@@ -6,9 +6,9 @@ use Prim.Native.Nat.{ℕ, zero, suc, _+_, _-_, _*_, _^_, _≤_, _<_}
 use native.Mathlib.Nat.{add-zero, add-suc, suc-add, pow-suc, pow-le-pow-right, lt-of-lt-of-le, zero-add, pos-of-ne-zero}
 use native.Mathlib.Numerals.{add-one}
 use native.Mathlib.Omega.{arith}
-use borrow.Author.Tests.{lt-ltb, le-ltb, le-leb, lt-leb, leb-true, eq-eqb, ne-eqb, eqb-true, eqb-false}
+use borrow.Author.Tests.{lt-ltb, le-ltb, le-leb, lt-leb, leb-true, leb-false, eq-eqb, ne-eqb, eqb-true, eqb-false}
 use lib.Dec.{T, eqb, leb, lit<}
-use lib.ListN.{length, getD, drop, drop-of-length-le}
+use lib.ListN.{length, getD, drop, drop-of-length-le, length-drop}
 use lib.Seq.{drop-cons, drop-drop}
 use Rattle.number.specs.declared.decimal.Digits.{Digits}
 use Rattle.number.specs.declared.decimal.Decimal.{Decimal}
@@ -266,7 +266,8 @@ module _ (text : List ℕ) (at : ℕ) (whole all : Digits) (places : ℕ)
 pub read-cases : (P : Decimal → Type 0) (text : List ℕ) (at : ℕ) → (length (wholeAt text at) ≡ 0 → P Nothing) →
     (0 < length (wholeAt text at) → length (wholeAt text at) + length (fractionAt text at) ≤ 15 →
     P (Number (at + length (wholeAt text at) + withPoint (length (fractionAt text at))) (joined 0 (wholeAt text at ++ fractionAt text at)) (length (fractionAt text at)))) →
-    (0 < length (wholeAt text at) → P (TooLong (at + length (wholeAt text at) + withPoint (length (fractionAt text at))))) → P (readAt text at)
+    (0 < length (wholeAt text at) → 15 < length (wholeAt text at) + length (fractionAt text at) → P (TooLong (at + length (wholeAt text at) + withPoint (length (fractionAt text at))))) →
+    P (readAt text at)
 unfolding readAt
 read-cases P text at p q r = go (eqb (length (wholeAt text at)) 0) (leb (length (wholeAt text at) + length (fractionAt text at)) 15) refl refl
   where
@@ -276,4 +277,50 @@ read-cases P text at p q r = go (eqb (length (wholeAt text at)) 0) (leb (length 
     go : (t u : Bool) → eqb (length (wholeAt text at)) 0 ≡ t → leb (length (wholeAt text at) + length (fractionAt text at)) 15 ≡ u → P (readAt text at)
     go true u e k = rw e (p (eqb-true _ 0 e))
     go false true e k = rw (e, k) (q (some e) (leb-true _ 15 k))
-    go false false e k = rw (e, k) (r (some e))
+    go false false e k = rw (e, k) (r (some e) (leb-false _ 15 k))
+
+-- ---- what `readAt` finds lies in the text
+
+digits-le : (bs : List ℕ) → length (digits bs) ≤ length bs
+unfolding digits
+digits-le [] = omega arith
+digits-le (b ∷ bs) = go (isDigit b) refl (digits-le bs)
+  where
+    go : (t : Bool) → isDigit b ≡ t → length (digits bs) ≤ length bs → length (digits (b ∷ bs)) ≤ length (b ∷ bs)
+    go true e h = rw (digits-more b bs e) (omega arith)
+    go false e h = rw (digits-none b bs e) (omega arith)
+
+whole-le : (bs : List ℕ) → length (wholePart bs) ≤ length bs
+unfolding wholePart
+whole-le [] = omega arith
+whole-le (b ∷ bs) = go (eqb b 48) refl
+  where
+    go : (t : Bool) → eqb b 48 ≡ t → length (wholePart (b ∷ bs)) ≤ length (b ∷ bs)
+    go true e = rw (wholePart, e) (omega arith)
+    go false e = rw (wholePart, e) (digits-le (b ∷ bs))
+
+with-point-le : (k : ℕ) → withPoint k ≤ suc k
+with-point-le zero = omega arith
+with-point-le (suc k) = omega arith
+
+fraction-le : (bs : List ℕ) → withPoint (length (fraction bs)) ≤ length bs
+unfolding fraction
+fraction-le [] = omega arith
+fraction-le (b ∷ bs) = go (eqb b 46) refl
+  where
+    go : (t : Bool) → eqb b 46 ≡ t → withPoint (length (fraction (b ∷ bs))) ≤ length (b ∷ bs)
+    go true e = rw (fraction, e) (omega (arith, digits-le bs, with-point-le (length (digits bs))))
+    go false e = rw (fraction, e) (omega arith)
+
+-- a number has a byte at least, and ends within the text
+abbrev pub EndsWithin : List ℕ → ℕ → Decimal → Type 0
+EndsWithin text at Nothing = Unit {0}
+EndsWithin text at (Number end n k) = (at < end) × (end ≤ length text)
+EndsWithin text at (TooLong end) = (at < end) × (end ≤ length text)
+
+pub read-within : (text : List ℕ) (at : ℕ) → EndsWithin text at (readAt text at)
+read-within text at =
+    let rest = drop (length (wholeAt text at)) (drop at text) in
+    let w : length (wholeAt text at) ≤ length text - at = rw (length-drop at text) at (whole-le (drop at text)) in
+    let f : withPoint (length (fractionAt text at)) ≤ length text - at - length (wholeAt text at) = rw (length-drop (length (wholeAt text at)) (drop at text), length-drop at text) at (fraction-le rest) in
+    read-cases (EndsWithin text at) text at (λ e. tt) (λ h k. (omega arith, omega arith)) (λ h k. (omega arith, omega arith))

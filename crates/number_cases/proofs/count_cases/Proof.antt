@@ -1,17 +1,14 @@
--- `number_cases::count_cases` is safe and ends. The loop's invariant: there are at most as many differences as cases, and these at most a million.
--- Assumes nothing.
-use Prim.Native.Nat.{_≤_, _-_}
-use mathlib.Core.Logic.{⊎-elim}
-use native.Mathlib.Omega.{arith}
+-- `number_cases::count_cases` is safe and ends: it reads a million cases at most.
+use Prim.Native.Nat.{_-_}
 use borrow.Author.Needs.{needs}
 use Rattle.number_cases.proofs.count_cases.Statement.{statement}
 use Rattle.number_cases.proofs.count_cases.Tie as tie
 
 abbrev Inv-loop : tie.InvT-loop
-Inv-loop fd name f cases₀ differences₀ cases differences = (cases ≤ 1000000) × (differences ≤ cases)
+Inv-loop fd name f t₀ counter₀ t counter = Unit {0}
 
 abbrev μ-loop : tie.MeasureT-loop
-μ-loop fd name f cases₀ differences₀ cases differences = 1000000 - cases
+μ-loop fd name f t₀ counter₀ t counter = 1000000 - counter
 
 loop-holds : tie.Need-loop-holds Inv-loop μ-loop
 loop-holds c = search needs
@@ -25,23 +22,17 @@ enum-told c = search needs
 returns : tie.Need-returns Inv-loop μ-loop
 returns c = search needs
 
-enum-told-2 : tie.Need-enum-told-2 Inv-loop μ-loop
-enum-told-2 c = search needs
+with-requires : tie.Need-with-requires Inv-loop μ-loop
+with-requires c κs = search needs
 
-enum-told-3 : tie.Need-enum-told-3 Inv-loop μ-loop
-enum-told-3 c = search needs
-
-add-differences : tie.Need-add-differences Inv-loop μ-loop
-add-differences c = search needs
-
-add-cases : tie.Need-add-cases Inv-loop μ-loop
-add-cases c = search needs
+add-counter : tie.Need-add-counter Inv-loop μ-loop
+add-counter c = search needs
 
 loop-less : tie.Need-loop-less Inv-loop μ-loop
 loop-less c = search needs
 
 loop-again : tie.Need-loop-again Inv-loop μ-loop
-loop-again c = ⊎-elim (λ w. omega arith) (λ w. omega arith) (c .match .came)
+loop-again c = search needs
 
 returns-2 : tie.Need-returns-2 Inv-loop μ-loop
 returns-2 c = search needs
@@ -56,10 +47,8 @@ count-cases-spec =
     next-requires
     enum-told
     returns
-    enum-told-2
-    enum-told-3
-    add-differences
-    add-cases
+    with-requires
+    add-counter
     loop-less
     loop-again
     returns-2)

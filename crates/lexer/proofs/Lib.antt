@@ -1,0 +1,7 @@
+-- Theorems about the definitions
+pub mod Longest
+pub mod Munch
+pub mod Only
+pub mod OnDemand
+-- What the functions' proofs lean on
+pub mod Law

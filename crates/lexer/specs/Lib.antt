@@ -1,0 +1,7 @@
+pub mod Bytes
+pub mod Mark
+pub mod Token
+pub mod Spelling
+pub mod Tokens
+pub mod Scan
+pub mod Inner

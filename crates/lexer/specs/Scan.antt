@@ -1,0 +1,42 @@
+-- Refusals 2 and 3 of a text: page 01, "Refusal numbers" and "Sizes".
+use mathlib.Core.Bool.{true, false, cond}
+use mathlib.Core.List.{List, [], _∷_}
+use Prim.Native.Nat.{ℕ, suc, _-_}
+use lib.Dec.{eqb, ltb}
+use Rattle.lexer.specs.Tokens.{Placed, placed, Lexed, tokens, badAt, tokensFrom, tokensOf}
+use Rattle.lexer.specs.declared.token.Token.{Token}
+use Rattle.lexer.specs.declared.token.Token.the-variants.{Number, String, Variable, Word, Mark}
+use Rattle.lexer.specs.declared.scan.Bracket.{Bracket}
+use Rattle.lexer.specs.declared.scan.Bracket.the-variants.{Opens, Closes, Neither}
+use Rattle.lexer.specs.declared.scan.Verdict.{Verdict}
+use Rattle.lexer.specs.declared.scan.Verdict.the-variants.{Fine, Refused}
+
+-- `(` is the mark 16 and `)` is the mark 17
+abbrev pub markBracket : ℕ → Bracket
+markBracket k = cond (eqb k 16) Opens (cond (eqb k 17) Closes Neither)
+
+-- what a token does to the round brackets that are open
+abbrev pub bracketOf : Token → Bracket
+bracketOf (Number n k) = Neither
+bracketOf String = Neither
+bracketOf Variable = Neither
+bracketOf (Word k) = Neither
+bracketOf (Mark k) = markBracket k
+
+-- "32 round brackets open at once (a `)` with none open changes nothing)": where the first stands that is the 33rd, when n are open before these tokens
+unfoldable pub bracketsIn : ℕ → List Placed → Verdict
+bracketsIn n [] = Fine
+bracketsIn n (placed t at end ∷ ts) = elim (bracketOf t) [
+  | Opens ↦ elim (ltb n 32) [ true ↦ bracketsIn (suc n) ts | false ↦ Refused 3 at ]
+  | Closes ↦ bracketsIn (n - 1) ts
+  | Neither ↦ bracketsIn n ts
+]
+
+-- 2 over the whole text before 3
+abbrev pub verdictOf : Lexed → Verdict
+verdictOf (tokens ts) = bracketsIn 0 ts
+verdictOf (badAt p) = Refused 2 p
+
+unfoldable pub scanOf : List ℕ → Verdict
+unfolding tokensFrom bracketsIn
+scanOf text = verdictOf (tokensOf text)
