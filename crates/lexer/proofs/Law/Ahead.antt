@@ -17,7 +17,7 @@ use Rattle.lexer.specs.declared.mark.Spelled.{Spelled}
 use Rattle.lexer.specs.declared.mark.Spelled.the-variants.{Listed, Refused}
 use Rattle.lexer.specs.declared.token.Lexeme.{Lexeme}
 use Rattle.lexer.specs.declared.token.Lexeme.the-variants.{Found, Bad, End}
-use Rattle.lexer.proofs.Law.Runs.{by-test, run-cons, run-le, begins-some}
+use Rattle.lexer.proofs.Law.Runs.{by-test, run-cons, run-le, byte-within}
 use Rattle.lexer.proofs.Law.Forms.{start-cases, start-byte}
 use Rattle.lexer.proofs.Law.Marks.{taken, spelled-takes}
 
@@ -32,10 +32,6 @@ Ahead from limit (Found t at end) = Between from limit at end
 Ahead from limit (Bad at end) = Between from limit at end
 Ahead from limit End = Unit {0}
 
--- bytes after the first m
-after-some : (bs : List ℕ) (b m : ℕ) → begins (b ∷ []) (drop m bs) ≡ true → m < length bs
-after-some bs b m e = omega (arith, begins-some b (drop m bs) e, length-drop m bs)
-
 -- ---- each form, at a place with the bytes bs after the first one
 
 module _ (at limit : ℕ) (bs : List ℕ) (h : at + suc (length bs) ≤ limit) where
@@ -47,7 +43,7 @@ module _ (at limit : ℕ) (bs : List ℕ) (h : at + suc (length bs) ≤ limit) w
   string-ahead q =
       let n = run (inClass (Inside q)) bs in
       by-test (Ahead at limit) (begins (q ∷ []) (drop n bs))
-      (λ e. (let i = after-some bs q n e in record { starts = omega arith; goes = omega arith; ends = omega arith })) (λ e. one)
+      (λ e. (let i = byte-within bs n q e in record { starts = omega arith; goes = omega arith; ends = omega arith })) (λ e. one)
 
   variable-ahead : Ahead at limit (variableAt at bs)
   unfolding variableAt
@@ -55,7 +51,7 @@ module _ (at limit : ℕ) (bs : List ℕ) (h : at + suc (length bs) ≤ limit) w
       let n = run isNameByte (drop 1 bs) in
       let good = begins (123 ∷ []) bs && isNameLength n in
       by-test (Ahead at limit) (good && begins (125 ∷ []) (drop (1 + n) bs))
-      (λ e. (let i = after-some bs 125 (1 + n) (and-eq-true-iff good _ .0 e .1) in record { starts = omega arith; goes = omega arith; ends = omega arith })) (λ e. one)
+      (λ e. (let i = byte-within bs (1 + n) 125 (and-eq-true-iff good _ .0 e .1) in record { starts = omega arith; goes = omega arith; ends = omega arith })) (λ e. one)
 
   word-ahead : (b : ℕ) → isNameByte b ≡ true → Ahead at limit (wordAt at (b ∷ bs))
   unfolding wordAt

@@ -13,6 +13,12 @@ use Rattle.lexer.specs.Token.{marked, markAt}
 use Rattle.lexer.specs.declared.mark.Spelled.{Spelled}
 use Rattle.lexer.specs.declared.mark.Spelled.the-variants.{Listed, Refused}
 
+-- ---- a test of every spelling in a list
+
+abbrev pub allOf : (List ℕ → Bool) → List (List ℕ) → Bool
+allOf p [] = true
+allOf p (s ∷ ss) = p s && allOf p ss
+
 -- ---- what the longest is: nothing, or a spelling that the text begins with
 
 pub longest-is : (P : List ℕ → Type 0) (ss : List (List ℕ)) (text : List ℕ) → P [] → ((s : List ℕ) → List·Memᴰ s ss → begins s text ≡ true → P s) → P (longestOf ss text)
@@ -74,20 +80,19 @@ apart (k ∷ ks) b x r e = go (eqb x k) refl e (apart ks b x (r .0))
     go true q i later p = r .1 (p ∙ eqb-true x k q)
     go false q i later p = later i p
 
--- whether each spelling begins with one of the keys
-abbrev pub begun : List ℕ → List (List ℕ) → Bool
-begun ks [] = true
-begun ks ([] ∷ ss) = false
-begun ks ((x ∷ s) ∷ ss) = among ks x && begun ks ss
+-- whether a spelling begins with one of the keys
+abbrev pub begun : List ℕ → List ℕ → Bool
+begun ks [] = false
+begun ks (x ∷ s) = among ks x
 
-none-begins : (ks : List ℕ) (ss : List (List ℕ)) (b : ℕ) (bs : List ℕ) → Apart ks b → begun ks ss ≡ true → longestOf ss (b ∷ bs) ≡ []
+none-begins : (ks : List ℕ) (ss : List (List ℕ)) (b : ℕ) (bs : List ℕ) → Apart ks b → allOf (begun ks) ss ≡ true → longestOf ss (b ∷ bs) ≡ []
 none-begins ks [] b bs r e = refl
 none-begins ks ([] ∷ ss) b bs r e = absurd (false≢true e)
 none-begins ks ((x ∷ s) ∷ ss) b bs r e =
-    let h = and-eq-true-iff (among ks x) (begun ks ss) .0 e in
+    let h = and-eq-true-iff (among ks x) (allOf (begun ks) ss) .0 e in
     rw (ne-eqb b x (apart ks b x r (h .0)), none-begins ks ss b bs r (h .1))
 
-pub unlisted : (ks : List ℕ) → begun ks (marks ++ refusedMarks) ≡ true → (b : ℕ) (bs : List ℕ) → Apart ks b → Refused 1 ≡ spelledBy (b ∷ bs)
+pub unlisted : (ks : List ℕ) → allOf (begun ks) (marks ++ refusedMarks) ≡ true → (b : ℕ) (bs : List ℕ) → Apart ks b → Refused 1 ≡ spelledBy (b ∷ bs)
 unfolding spelledBy
 unlisted ks e b bs r = sym (ap judged (none-begins ks (marks ++ refusedMarks) b bs r e))
 
@@ -105,20 +110,16 @@ short n [] = true
 short zero (x ∷ s) = false
 short (suc n) (x ∷ s) = not (eqb 0 x) && short n s
 
-abbrev allShort : ℕ → List (List ℕ) → Bool
-allShort n [] = true
-allShort n (s ∷ ss) = short n s && allShort n ss
-
 begins-padded : (n : ℕ) (s text : List ℕ) → short n s ≡ true → begins s (padded n text) ≡ begins s text
 begins-padded n [] text e = refl
 begins-padded zero (x ∷ s) text e = absurd (false≢true e)
 begins-padded (suc n) (x ∷ s) [] e = rw (not-true (eqb 0 x) (and-eq-true-iff (not (eqb 0 x)) (short n s) .0 e .0))
 begins-padded (suc n) (x ∷ s) (b ∷ bs) e = ap (λ (t : Bool). eqb b x && t) (begins-padded n s bs (and-eq-true-iff (not (eqb 0 x)) (short n s) .0 e .1))
 
-longest-padded : (n : ℕ) (ss : List (List ℕ)) (text : List ℕ) → allShort n ss ≡ true → longestOf ss (padded n text) ≡ longestOf ss text
+longest-padded : (n : ℕ) (ss : List (List ℕ)) (text : List ℕ) → allOf (short n) ss ≡ true → longestOf ss (padded n text) ≡ longestOf ss text
 longest-padded n [] text e = refl
 longest-padded n (s ∷ ss) text e =
-    let h = and-eq-true-iff (short n s) (allShort n ss) .0 e in
+    let h = and-eq-true-iff (short n s) (allOf (short n) ss) .0 e in
     ap₂ (λ (t : Bool) (l : List ℕ). longerIf t s l) (begins-padded n s text (h .0)) (longest-padded n ss text (h .1))
 
 three : (text : List ℕ) → getD text 0 0 ∷ getD text 1 0 ∷ getD text 2 0 ∷ [] ≡ padded 3 text

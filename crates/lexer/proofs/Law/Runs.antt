@@ -60,7 +60,7 @@ module _ (text : List ℕ) (at b : ℕ) where
   byte-past h = rw (drop-of-length-le text h)
 
 -- a text that begins with a byte has one
-pub begins-some : (b : ℕ) (bs : List ℕ) → begins (b ∷ []) bs ≡ true → 0 < length bs
+begins-some : (b : ℕ) (bs : List ℕ) → begins (b ∷ []) bs ≡ true → 0 < length bs
 begins-some b [] e = absurd (false≢true e)
 begins-some b (x ∷ bs) e = omega arith
 

@@ -20,6 +20,7 @@ use Rattle.lexer.specs.Spelling.{All, IsDecimal, whole, pointed, Spells,
 use Rattle.lexer.specs.declared.bytes.Class.the-variants.{Inside}
 use Rattle.lexer.specs.declared.token.Token.{Token}
 use Rattle.lexer.proofs.Law.Runs.{run-cons, run-nil}
+use Rattle.lexer.proofs.Law.Marks.{allOf}
 
 -- ---- runs
 
@@ -159,10 +160,6 @@ is-other other e = refl
 abbrev onlyMark : List ℕ → Bool
 onlyMark [] = false
 onlyMark (b ∷ bs) = not (isDigit b) && isOther (startOf b)
-
-abbrev allOf : (List ℕ → Bool) → List (List ℕ) → Bool
-allOf p [] = true
-allOf p (s ∷ ss) = p s && allOf p ss
 
 pub of-all : (p : List ℕ → Bool) (ss : List (List ℕ)) (s : List ℕ) → allOf p ss ≡ true → List·Memᴰ s ss → p s ≡ true
 of-all p [] s e m = absurd (List·Memᴰ·not-nil m)
