@@ -12,9 +12,9 @@ A file of texts has for each text a head line, the text and a line feed, and a l
 The head line: the text's length, how many tokens are read, and the number (0 for none) and place of
 the text's refusal. A token's line: its kind, a value, its place and its end. The kinds: N a number,
 with its digits after the point as value, and on a line of its own the whole number of its digits;
-S a string; V a variable; W a word and M a mark, with its place in the list (WORDS, MARKS) as value;
-B one that is refused; E the end, all 0. Tokens are read from place 0, each from the end of the last,
-up to the end or a refused one.
+S a string; V a variable; W a word and P a punctuator, with its place in the list (WORDS,
+PUNCTUATORS) as value; B one that is refused; E the end, all 0. Tokens are read from place 0, each
+from the end of the last, up to the end or a refused one.
 `places` has for each case a head line (length and place), the text, and the token there.
 `runs` has a head line (length, place, class, byte, end) and the text: where the run of bytes of the
 class ends that begins at the place. The classes: S spaces, N bytes of a name, I what may stand
@@ -38,7 +38,7 @@ MOST_NAME = 64
 MOST_BRACKETS = 32
 MOST_TEXT = 1024
 
-MARKS = [m.encode() for m in '? : || && === !== < <= > >= + - * / % ! ( ) [ ] , .'.split()]
+PUNCTUATORS = [m.encode() for m in '? : || && === !== < <= > >= + - * / % ! ( ) [ ] , .'.split()]
 REFUSED = [m.encode() for m in '-- ++ == != =~'.split()]
 LONE = [m.encode() for m in '& | = ~'.split()]
 WORDS = [b'true', b'false', b'null', b'undefined', b'NaN', b'Infinity']
@@ -93,15 +93,15 @@ def word_at(text, at):
     return Lexeme('W', value, at, found.end())
 
 
-def mark_at(text, at):
+def punctuator_at(text, at):
     """The longest of the listed and the refused operators; any other byte is refused."""
-    there = [m for m in MARKS + REFUSED if text.startswith(m, at)]
+    there = [m for m in PUNCTUATORS + REFUSED if text.startswith(m, at)]
     if not there:
         return Lexeme('B', 0, at, at + 1)
-    mark = max(there, key=len)
-    if mark in REFUSED:
-        return Lexeme('B', 0, at, at + len(mark))
-    return Lexeme('M', MARKS.index(mark), at, at + len(mark))
+    punctuator = max(there, key=len)
+    if punctuator in REFUSED:
+        return Lexeme('B', 0, at, at + len(punctuator))
+    return Lexeme('P', PUNCTUATORS.index(punctuator), at, at + len(punctuator))
 
 
 def token_at(text, start):
@@ -119,7 +119,7 @@ def token_at(text, start):
         return variable_at(text, at)
     if first in LETTERS + b'_':
         return word_at(text, at)
-    return mark_at(text, at)
+    return punctuator_at(text, at)
 
 
 def tokens(text):
@@ -137,11 +137,11 @@ def verdict(text):
         return 2, found[-1].at
     depth = 0
     for token in found:
-        if token.kind == 'M' and MARKS[token.value] == b'(':
+        if token.kind == 'P' and PUNCTUATORS[token.value] == b'(':
             depth += 1
             if depth > MOST_BRACKETS:
                 return 3, token.at
-        if token.kind == 'M' and MARKS[token.value] == b')':
+        if token.kind == 'P' and PUNCTUATORS[token.value] == b')':
             depth = max(depth - 1, 0)
     return 0, 0
 
@@ -203,8 +203,8 @@ def one(b):
 EDGES = [one(b) for b in b'\x00\x09\x0a\x0d\x1f\x20!"#$%&\'()*+,-./09:;<=>?@AZ[\\]^_`az{|}~\x7f\x80\x9f\xa0\xc3\xe9\xff']
 
 
-def mark_texts(source):
-    signs = MARKS + REFUSED + LONE
+def punctuator_texts(source):
+    signs = PUNCTUATORS + REFUSED + LONE
     texts = signs + [a + gap + b for a in signs for b in signs for gap in (b'', b' ')]
     three = [b'=', b'!', b'&', b'|', b'<', b'>', b'-', b'+', b'~']
     texts += [a + b + c for a in three for b in three for c in three]
@@ -463,7 +463,7 @@ if...else
 
 
 # Fragments that may stand in an expression, and some that are refused wherever they stand outside a string.
-GOOD = MARKS + WORDS + [
+GOOD = PUNCTUATORS + WORDS + [
     b' ', b' ', b' ', b'  ', b'0', b'1', b'7', b'12.5', b'0.25', b'100', b'.5', b'x', b'y', b'_a1', b'vec3', b'color', b'(', b')', b'${a}', b'${Lap}', b'${x_1}',
     b"'a'", b'"b c"', b"''", b"'('", b'"\'"', b"'\\'", b"'\xc3\xa9'", b'123456789012345', b'truex', b'nul', b'NaN',
 ]
@@ -563,7 +563,7 @@ def class_record(b):
 
 
 TEXT_FILES = {
-    'marks': mark_texts, 'bytes': byte_texts, 'numbers': number_texts, 'variables': variable_texts, 'words': word_texts, 'strings': string_texts,
+    'punctuators': punctuator_texts, 'bytes': byte_texts, 'numbers': number_texts, 'variables': variable_texts, 'words': word_texts, 'strings': string_texts,
     'brackets': bracket_texts, 'spaces': space_texts, 'examples': example_texts, 'random': random_texts, 'long': long_texts,
 }
 

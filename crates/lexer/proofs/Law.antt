@@ -1,5 +1,5 @@
 pub mod Runs
-pub mod Marks
+pub mod Punctuators
 pub mod Forms
 pub mod Ahead
 pub mod Scanning

@@ -1,4 +1,4 @@
--- `longestOf` is the longest match, and the spellings of marks are all different, so that a mark's number says which it is.
+-- `longestOf` is the longest match, and the spellings of punctuators are all different, so that a punctuator's number says which it is.
 use mathlib.Core.Path.{_≡_, refl, sym, _∙_, ap}
 use mathlib.Core.Bool.{Bool, true, false, cond, false≢true}
 use mathlib.Core.List.{List, [], _∷_, _++_, map, List·Memᴰ, List·Memᴰ·not-nil, List·Memᴰ·cases-cons}
@@ -10,8 +10,8 @@ use borrow.Author.Tests.{leb-true, leb-false}
 use lib.Dec.{leb}
 use lib.ListN.{length, getD, List·getD-map}
 use Rattle.lexer.specs.Bytes.{begins, placeIn}
-use Rattle.lexer.specs.Mark.{marks, refusedMarks, longerIf, longestOf}
-use Rattle.lexer.proofs.Law.Marks.{longest-is}
+use Rattle.lexer.specs.Punctuator.{punctuators, refusedOperators, longerIf, longestOf}
+use Rattle.lexer.proofs.Law.Punctuators.{longest-is}
 
 -- ---- the longest match
 
@@ -61,11 +61,11 @@ from-at i (suc n) (suc k) d h = from-at (suc i) n k d (omega arith) ∙ omega ar
 placed-in : (ss : List (List ℕ)) → map (placeIn ss) ss ≡ from 0 (length ss) → (k : ℕ) → k < length ss → placeIn ss (getD ss k []) ≡ k
 placed-in ss e k h = sym (List·getD-map (placeIn ss) ss k []) ∙ ap (λ (l : List ℕ). getD l k (placeIn ss [])) e ∙ from-at 0 (length ss) k _ h ∙ zero-add k
 
-pub placed : (k : ℕ) → k < length marks → placeIn marks (getD marks k []) ≡ k
-placed = placed-in marks refl
+pub placed : (k : ℕ) → k < length punctuators → placeIn punctuators (getD punctuators k []) ≡ k
+placed = placed-in punctuators refl
 
--- no two places of the table hold the same spelling, so no refused one is a mark
-pub all-differ : (j k : ℕ) → j < length (marks ++ refusedMarks) → k < length (marks ++ refusedMarks) → getD (marks ++ refusedMarks) j [] ≡ getD (marks ++ refusedMarks) k [] → j ≡ k
+-- no two places of the table hold the same spelling, so no refused one is a punctuator
+pub all-differ : (j k : ℕ) → j < length (punctuators ++ refusedOperators) → k < length (punctuators ++ refusedOperators) → getD (punctuators ++ refusedOperators) j [] ≡ getD (punctuators ++ refusedOperators) k [] → j ≡ k
 all-differ j k h i e =
-    let place = placed-in (marks ++ refusedMarks) refl in
-    sym (place j h) ∙ ap (placeIn (marks ++ refusedMarks)) e ∙ place k i
+    let place = placed-in (punctuators ++ refusedOperators) refl in
+    sym (place j h) ∙ ap (placeIn (punctuators ++ refusedOperators)) e ∙ place k i

@@ -18,20 +18,20 @@ use Rattle.number.proofs.Law.Reading.{wholeAt, fractionAt, read-cases}
 use Rattle.number.proofs.Longest as numbers
 use Rattle.number.proofs.Longest.{size, number-parts, whole-digit}
 use Rattle.lexer.specs.Bytes.{isSpace, isQuote, isWordStart, isNameByte, isNameLength, inClass, run, begins, placeIn}
-use Rattle.lexer.specs.Mark.{marks, refusedMarks, longestOf, judged}
-use Rattle.lexer.specs.Token.{literalWords, stringAt, variableAt, wordAt, marked, markAt, Start, quote, dollar, letter, other, startingAt, otherAt, numberOr, firstAt, lexemeAt}
-use Rattle.lexer.specs.Spelling.{All, IsDecimal, whole, pointed, Spells, number, string, variable, word, mark, Refuses, long-number, refused-mark, NoLonger, SpacesUpTo, Munch}
+use Rattle.lexer.specs.Punctuator.{punctuators, refusedOperators, longestOf, judged}
+use Rattle.lexer.specs.Token.{literalWords, stringAt, variableAt, wordAt, lexemeOf, punctuatorAt, Start, quote, dollar, letter, other, startingAt, otherAt, numberOr, firstAt, lexemeAt}
+use Rattle.lexer.specs.Spelling.{All, IsDecimal, whole, pointed, Spells, number, string, variable, word, punctuator, Refuses, long-number, refused-operator, NoLonger, SpacesUpTo, Munch}
 use Rattle.lexer.specs.declared.bytes.Class.the-variants.{Inside}
-use Rattle.lexer.specs.declared.mark.Spelled.{Spelled}
+use Rattle.lexer.specs.declared.punctuator.Spelled.{Spelled}
 use Rattle.lexer.specs.declared.token.Token.{Token}
-use Rattle.lexer.specs.declared.token.Token.the-variants.{String, Variable, Word, Mark}
+use Rattle.lexer.specs.declared.token.Token.the-variants.{String, Variable, Word, Punctuator}
 use Rattle.lexer.specs.declared.token.Lexeme.{Lexeme}
 use Rattle.lexer.specs.declared.token.Lexeme.the-variants.{Found, Bad, End}
 use Rattle.lexer.proofs.Longest.{Longest, longest}
 use Rattle.lexer.proofs.Law.Runs.{by-test, run-cons, run-le}
 use Rattle.lexer.proofs.Law.Forms.{start-cases, start-byte}
 use Rattle.lexer.proofs.Law.Ahead.{Ahead, ahead}
-use Rattle.lexer.proofs.Law.Spelling.{run-over, run-all, run-ends, begins-over, begins-take, closed-run, closed-take, slice-is, place-mem, not-first, starts-digit, mark-first, Form, limited}
+use Rattle.lexer.proofs.Law.Spelling.{run-over, run-all, run-ends, begins-over, begins-take, closed-run, closed-take, slice-is, place-mem, not-first, starts-digit, punctuator-first, Form, limited}
 
 -- ---- what stands at a place, from the bytes there
 
@@ -121,31 +121,31 @@ word-here at b bs e l =
     (found at (b ∷ bs) (suc n) (Word (placeIn literalWords (b ∷ take n bs))) (word b (take n bs) (subst T (sym e) tt) (run-all isNameByte bs))
     (l (suc n) (λ m f. omega (arith, run-over isNameByte (f .0) (f .1) (f .2), ap (run isNameByte) (f .3), f .4))))
 
--- ---- marks: the longest that the text begins with is taken
+-- ---- punctuators: the longest that the text begins with is taken
 
-mark-judged : (at b : ℕ) (bs l : List ℕ) → Longest (marks ++ refusedMarks) (b ∷ bs) l → Limit other b bs → Here at (b ∷ bs) (marked at (judged l))
-mark-judged at b bs l h k = go l (h .is-one) (k (length l) (λ m f. rw (f .4) (h .none-longer (f .0) (f .2) (subst (λ (i : List ℕ). begins (f .0) i ≡ true) (f .3) (begins-over (f .0) (f .1))))))
+punctuator-judged : (at b : ℕ) (bs l : List ℕ) → Longest (punctuators ++ refusedOperators) (b ∷ bs) l → Limit other b bs → Here at (b ∷ bs) (lexemeOf at (judged l))
+punctuator-judged at b bs l h k = go l (h .is-one) (k (length l) (λ m f. rw (f .4) (h .none-longer (f .0) (f .2) (subst (λ (i : List ℕ). begins (f .0) i ≡ true) (f .3) (begins-over (f .0) (f .1))))))
   where
-    go : (s : List ℕ) → (s ≡ []) ⊎ (List·Memᴰ s (marks ++ refusedMarks) × (begins s (b ∷ bs) ≡ true)) → NoLonger (length s) (b ∷ bs) → Here at (b ∷ bs) (marked at (judged s))
+    go : (s : List ℕ) → (s ≡ []) ⊎ (List·Memᴰ s (punctuators ++ refusedOperators) × (begins s (b ∷ bs) ≡ true)) → NoLonger (length s) (b ∷ bs) → Here at (b ∷ bs) (lexemeOf at (judged s))
     go [] o n = unlisted at (b ∷ bs) n
     go (c ∷ s) (inl e) n = absurd (nil≢cons (sym e))
     go (c ∷ s) (inr o) n =
         let taken : c ∷ s ≡ take (length (c ∷ s)) (b ∷ bs) = sym (begins-take (c ∷ s) (b ∷ bs) (o .1)) in
-        by-test (λ (x : Spelled). Here at (b ∷ bs) (marked at x)) (ltb (placeIn marks (c ∷ s)) (length marks))
-        (λ t. found at (b ∷ bs) (length (c ∷ s)) (Mark (placeIn marks (c ∷ s)))
-        (subst (λ (i : List ℕ). Spells i (Mark (placeIn marks (c ∷ s)))) taken (mark (place-mem marks (c ∷ s) (ltb-true _ _ t)))) n)
-        (λ t. refused at (b ∷ bs) (length (c ∷ s)) (subst Refuses taken (refused-mark (not-first marks refusedMarks (c ∷ s) (o .0) (ltb-false _ _ t)))) n)
+        by-test (λ (x : Spelled). Here at (b ∷ bs) (lexemeOf at x)) (ltb (placeIn punctuators (c ∷ s)) (length punctuators))
+        (λ t. found at (b ∷ bs) (length (c ∷ s)) (Punctuator (placeIn punctuators (c ∷ s)))
+        (subst (λ (i : List ℕ). Spells i (Punctuator (placeIn punctuators (c ∷ s)))) taken (punctuator (place-mem punctuators (c ∷ s) (ltb-true _ _ t)))) n)
+        (λ t. refused at (b ∷ bs) (length (c ∷ s)) (subst Refuses taken (refused-operator (not-first punctuators refusedOperators (c ∷ s) (o .0) (ltb-false _ _ t)))) n)
 
-mark-here : (at b : ℕ) (bs : List ℕ) → Limit other b bs → Here at (b ∷ bs) (markAt at (b ∷ bs))
-unfolding markAt
-mark-here at b bs l = mark-judged at b bs (longestOf (marks ++ refusedMarks) (b ∷ bs)) (longest (marks ++ refusedMarks) (b ∷ bs)) l
+punctuator-here : (at b : ℕ) (bs : List ℕ) → Limit other b bs → Here at (b ∷ bs) (punctuatorAt at (b ∷ bs))
+unfolding punctuatorAt
+punctuator-here at b bs l = punctuator-judged at b bs (longestOf (punctuators ++ refusedOperators) (b ∷ bs)) (longest (punctuators ++ refusedOperators) (b ∷ bs)) l
 
 -- ---- by the first byte
 
 other-here : (at b : ℕ) (bs : List ℕ) → ((p q : List ℕ) → p ++ q ≡ b ∷ bs → IsNumber p → length p ≤ 0) → Here at (b ∷ bs) (otherAt at b bs)
 unfolding otherAt
 other-here at b bs none =
-    start-cases (λ (s : Start). Limit s b bs → Here at (b ∷ bs) (startingAt s at b bs)) b (string-here b bs at) (variable-here b bs at) (word-here at b bs) (mark-here at b bs)
+    start-cases (λ (s : Start). Limit s b bs → Here at (b ∷ bs) (startingAt s at b bs)) b (string-here b bs at) (variable-here b bs at) (word-here at b bs) (punctuator-here at b bs)
     (λ n. limited b bs n (λ p q e i. omega (arith, none p q e i)))
 
 -- ---- numbers
@@ -160,7 +160,7 @@ number-limit : (b : ℕ) (bs : List ℕ) (n : ℕ) → 0 < length (wholePart (b 
 number-limit b bs n h k =
     let d = whole-digit b bs h in
     limited b bs n k (λ m f. (let g : Form other b bs m = subst (λ (s : Start). Form s b bs m) (starts-digit b d) f in
-    absurd (false≢true (sym (mark-first (g .0) (g .1) b bs (g .2) (g .3) .0) ∙ d))))
+    absurd (false≢true (sym (punctuator-first (g .0) (g .1) b bs (g .2) (g .3) .0) ∙ d))))
 
 module _ (text : List ℕ) (at b : ℕ) (bs : List ℕ) (h : drop at text ≡ b ∷ bs) where
   abbrev n : ℕ

@@ -13,16 +13,16 @@ use lib.ListN.{length, getD, take, drop, length-drop, take-append-drop}
 use lib.Seq.{slice, length-slice, take-append-seam, drop-append-seam, drop-drop, drop-cons}
 use Rattle.number.specs.Decimal.{isDigit, joined, Digits⁺, IsWholePart, nought, counted}
 use Rattle.lexer.specs.Bytes.{isSpace, isQuote, run, placeIn}
-use Rattle.lexer.specs.Mark.{marks, refusedMarks}
+use Rattle.lexer.specs.Punctuator.{punctuators, refusedOperators}
 use Rattle.lexer.specs.Token.{literalWords, Start, quote, dollar, letter, other, startOf, lexemeAt}
-use Rattle.lexer.specs.Spelling.{All, IsDecimal, whole, pointed, Spells, number, string, variable, word, mark, Refuses, long-number, refused-mark, NoLonger, SpacesUpTo, Munch}
+use Rattle.lexer.specs.Spelling.{All, IsDecimal, whole, pointed, Spells, number, string, variable, word, punctuator, Refuses, long-number, refused-operator, NoLonger, SpacesUpTo, Munch}
 use Rattle.lexer.specs.declared.token.Token.{Token}
-use Rattle.lexer.specs.declared.token.Token.the-variants.{Number, String, Variable, Word, Mark}
+use Rattle.lexer.specs.declared.token.Token.the-variants.{Number, String, Variable, Word, Punctuator}
 use Rattle.lexer.specs.declared.token.Lexeme.{Lexeme}
 use Rattle.lexer.specs.declared.token.Lexeme.the-variants.{Found, Bad, End}
 use Rattle.lexer.proofs.Munch.{munch}
 use Rattle.lexer.proofs.Law.Runs.{run-nil}
-use Rattle.lexer.proofs.Law.Spelling.{run-over, closed-run, slice-is, starts-letter, starts-digit, isOther, of-all, mem-place, mark-first}
+use Rattle.lexer.proofs.Law.Spelling.{run-over, closed-run, slice-is, starts-letter, starts-digit, isOther, of-all, mem-place, punctuator-first}
 
 -- ---- what bytes spell, by the first of them
 
@@ -48,7 +48,7 @@ module _ (at : ℕ) where
   started quote s = ruled true String (length s)
   started dollar s = ruled true Variable (length s)
   started letter s = ruled true (Word (placeIn literalWords s)) (length s)
-  started other s = ruled (ltb (placeIn marks s) (length marks)) (Mark (placeIn marks s)) (length s)
+  started other s = ruled (ltb (placeIn punctuators s) (length punctuators)) (Punctuator (placeIn punctuators s)) (length s)
 
   -- the lexeme that some bytes are; none at all stand for a byte that begins no token
   abbrev reading : List ℕ → Lexeme
@@ -83,22 +83,22 @@ module _ (at : ℕ) where
       go true i = absurd (false≢true (sym o ∙ ap isOther (sym e ∙ starts-digit b i)))
       go false i = rw (i, e)
 
-  mark-read : (s : List ℕ) → List·Memᴰ s (marks ++ refusedMarks) → Reads s (started other s)
-  mark-read [] m = absurd (false≢true (sym (mark-first [] (48 ∷ []) 48 [] m refl .0)))
-  mark-read (b ∷ bs) m = let h = mark-first (b ∷ bs) [] b (bs ++ []) m refl in (omega arith, rw (h .0, h .1))
+  punctuator-read : (s : List ℕ) → List·Memᴰ s (punctuators ++ refusedOperators) → Reads s (started other s)
+  punctuator-read [] m = absurd (false≢true (sym (punctuator-first [] (48 ∷ []) 48 [] m refl .0)))
+  punctuator-read (b ∷ bs) m = let h = punctuator-first (b ∷ bs) [] b (bs ++ []) m refl in (omega arith, rw (h .0, h .1))
 
   spelled-read : {s : List ℕ} {t : Token} → Spells s t → Reads s (Found t at (at + length s))
   spelled-read (number {s} {n} {k} {d} i h) = rw (le-leb d 15 h) at (decimal-read i)
   spelled-read (string q bs h a) = (omega arith, start-read quote q (bs ++ q ∷ []) (rw (is-true (isQuote q) h)) refl)
   spelled-read (variable bs a h) = (omega arith, refl)
   spelled-read (word b bs h a) = (omega arith, start-read letter b bs (starts-letter b (is-true _ h)) refl)
-  spelled-read (mark {s} m) = rw (lt-ltb _ _ (mem-place marks s m)) at (mark-read s (Memᴰ·append-left refusedMarks m))
+  spelled-read (punctuator {s} m) = rw (lt-ltb _ _ (mem-place punctuators s m)) at (punctuator-read s (Memᴰ·append-left refusedOperators m))
 
   refused-read : {s : List ℕ} → Refuses s → Reads s (Bad at (at + length s))
   refused-read (long-number {s} {n} {k} {d} i h) = rw (lt-leb d 15 h) at (decimal-read i)
-  refused-read (refused-mark {s} m) =
-      let none : ltb (placeIn marks s) (length marks) ≡ false = not-true _ (of-all (λ l. not (ltb (placeIn marks l) (length marks))) refusedMarks s refl m) in
-      rw none at (mark-read s (Memᴰ·append-right marks m))
+  refused-read (refused-operator {s} m) =
+      let none : ltb (placeIn punctuators s) (length punctuators) ≡ false = not-true _ (of-all (λ l. not (ltb (placeIn punctuators l) (length punctuators))) refusedOperators s refl m) in
+      rw none at (punctuator-read s (Memᴰ·append-right punctuators m))
 
 -- ---- what stands at a place
 

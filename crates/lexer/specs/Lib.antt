@@ -1,5 +1,5 @@
 pub mod Bytes
-pub mod Mark
+pub mod Punctuator
 pub mod Token
 pub mod Spelling
 pub mod Tokens

@@ -5,15 +5,15 @@ use Prim.Native.Nat.{ℕ, suc, _-_}
 use lib.Dec.{eqb, ltb}
 use Rattle.lexer.specs.Tokens.{Placed, placed, Lexed, tokens, badAt, tokensFrom, tokensOf}
 use Rattle.lexer.specs.declared.token.Token.{Token}
-use Rattle.lexer.specs.declared.token.Token.the-variants.{Number, String, Variable, Word, Mark}
+use Rattle.lexer.specs.declared.token.Token.the-variants.{Number, String, Variable, Word, Punctuator}
 use Rattle.lexer.specs.declared.scan.Bracket.{Bracket}
 use Rattle.lexer.specs.declared.scan.Bracket.the-variants.{Opens, Closes, Neither}
 use Rattle.lexer.specs.declared.scan.Verdict.{Verdict}
 use Rattle.lexer.specs.declared.scan.Verdict.the-variants.{Fine, Refused}
 
--- `(` is the mark 16 and `)` is the mark 17
-abbrev pub markBracket : ℕ → Bracket
-markBracket k = cond (eqb k 16) Opens (cond (eqb k 17) Closes Neither)
+-- `(` is the punctuator 16 and `)` is the punctuator 17
+abbrev pub punctuatorBracket : ℕ → Bracket
+punctuatorBracket k = cond (eqb k 16) Opens (cond (eqb k 17) Closes Neither)
 
 -- what a token does to the round brackets that are open
 abbrev pub bracketOf : Token → Bracket
@@ -21,7 +21,7 @@ bracketOf (Number n k) = Neither
 bracketOf String = Neither
 bracketOf Variable = Neither
 bracketOf (Word k) = Neither
-bracketOf (Mark k) = markBracket k
+bracketOf (Punctuator k) = punctuatorBracket k
 
 -- "32 round brackets open at once (a `)` with none open changes nothing)": where the first stands that is the 33rd, when n are open before these tokens
 unfoldable pub bracketsIn : ℕ → List Placed → Verdict

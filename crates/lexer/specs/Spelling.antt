@@ -10,11 +10,11 @@ use lib.ListN.{length, getD, drop}
 use lib.Seq.{slice}
 use Rattle.number.specs.Decimal.{joined, IsWholePart, Digits⁺}
 use Rattle.lexer.specs.Bytes.{isSpace, isNameByte, isNameLength, isWordStart, isQuote, inClass, placeIn}
-use Rattle.lexer.specs.Mark.{marks, refusedMarks}
+use Rattle.lexer.specs.Punctuator.{punctuators, refusedOperators}
 use Rattle.lexer.specs.Token.{literalWords}
 use Rattle.lexer.specs.declared.bytes.Class.the-variants.{Inside}
 use Rattle.lexer.specs.declared.token.Token.{Token}
-use Rattle.lexer.specs.declared.token.Token.the-variants.{Number, String, Variable, Word, Mark}
+use Rattle.lexer.specs.declared.token.Token.the-variants.{Number, String, Variable, Word, Punctuator}
 use Rattle.lexer.specs.declared.token.Lexeme.{Lexeme}
 use Rattle.lexer.specs.declared.token.Lexeme.the-variants.{Found, Bad, End}
 
@@ -39,13 +39,13 @@ pub data Spells : List ℕ → Token → Type 0 where
   variable : (bs : List ℕ) → All isNameByte bs → T (isNameLength (length bs)) → Spells (36 ∷ 123 ∷ bs ++ 125 ∷ []) Variable
   -- "A word is a letter or underscore, then letters, digits or underscores"
   word : (b : ℕ) (bs : List ℕ) → T (isWordStart b) → All isNameByte bs → Spells (b ∷ bs) (Word (placeIn literalWords (b ∷ bs)))
-  mark : {s : List ℕ} → List·Memᴰ s marks → Spells s (Mark (placeIn marks s))
+  punctuator : {s : List ℕ} → List·Memᴰ s punctuators → Spells s (Punctuator (placeIn punctuators s))
 
 -- the bytes that spell a token which is refused
 pub data Refuses : List ℕ → Type 0 where
   -- "a longer one being a token refused with 2"
   long-number : {s : List ℕ} {n k d : ℕ} → IsDecimal s n k d → 15 < d → Refuses s
-  refused-mark : {s : List ℕ} → List·Memᴰ s refusedMarks → Refuses s
+  refused-operator : {s : List ℕ} → List·Memᴰ s refusedOperators → Refuses s
 
 -- "Longest match": a text begins with no token, listed or refused, of over n bytes
 pub record NoLonger (n : ℕ) (text : List ℕ) : Type 0 where

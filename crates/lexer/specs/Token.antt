@@ -9,11 +9,11 @@ use Rattle.number.specs.Decimal.{readAt}
 use Rattle.number.specs.declared.decimal.Decimal.{Decimal}
 use Rattle.number.specs.declared.decimal.Decimal.the-variants as decimal
 use Rattle.lexer.specs.Bytes.{isSpace, isQuote, isWordStart, isNameByte, isNameLength, inClass, run, begins, placeIn}
-use Rattle.lexer.specs.Mark.{spelledBy}
+use Rattle.lexer.specs.Punctuator.{spelledBy}
 use Rattle.lexer.specs.declared.bytes.Class.the-variants.{Inside}
-use Rattle.lexer.specs.declared.mark.Spelled.{Spelled}
-use Rattle.lexer.specs.declared.mark.Spelled.the-variants.{Listed, Refused}
-use Rattle.lexer.specs.declared.token.Token.the-variants.{Number, String, Variable, Word, Mark}
+use Rattle.lexer.specs.declared.punctuator.Spelled.{Spelled}
+use Rattle.lexer.specs.declared.punctuator.Spelled.the-variants.{Listed, Refused}
+use Rattle.lexer.specs.declared.token.Token.the-variants.{Number, String, Variable, Word, Punctuator}
 use Rattle.lexer.specs.declared.token.Lexeme.{Lexeme}
 use Rattle.lexer.specs.declared.token.Lexeme.the-variants.{Found, Bad, End}
 
@@ -58,17 +58,17 @@ unfoldable pub wordAt : ℕ → List ℕ → Lexeme
 unfolding run
 wordAt at rest = let n = run isNameByte rest in Found (Word (placeIn literalWords (take n rest))) at (at + n)
 
-abbrev pub marked : ℕ → Spelled → Lexeme
-marked at (Listed k n) = Found (Mark k) at (at + n)
-marked at (Refused n) = Bad at (at + n)
+abbrev pub lexemeOf : ℕ → Spelled → Lexeme
+lexemeOf at (Listed k n) = Found (Punctuator k) at (at + n)
+lexemeOf at (Refused n) = Bad at (at + n)
 
-unfoldable pub markAt : ℕ → List ℕ → Lexeme
+unfoldable pub punctuatorAt : ℕ → List ℕ → Lexeme
 unfolding spelledBy
-markAt at rest = marked at (spelledBy rest)
+punctuatorAt at rest = lexemeOf at (spelledBy rest)
 
 -- ---- what stands at a place
 
--- what else a token may begin with; the last is a mark, or nothing that is listed
+-- what else a token may begin with; the last is a punctuator, or nothing that is listed
 pub data Start : Type 0 where
   quote dollar letter other : Start
 
@@ -80,10 +80,10 @@ abbrev pub startingAt : Start → ℕ → ℕ → List ℕ → Lexeme
 startingAt quote at b bs = stringAt at b bs
 startingAt dollar at b bs = variableAt at bs
 startingAt letter at b bs = wordAt at (b ∷ bs)
-startingAt other at b bs = markAt at (b ∷ bs)
+startingAt other at b bs = punctuatorAt at (b ∷ bs)
 
 unfoldable pub otherAt : ℕ → ℕ → List ℕ → Lexeme
-unfolding stringAt variableAt wordAt markAt
+unfolding stringAt variableAt wordAt punctuatorAt
 otherAt at b bs = startingAt (startOf b) at b bs
 
 -- a number is a token, but "a longer one" than 15 digits is "refused with 2"

@@ -1,10 +1,10 @@
 // The first look at an expression: whether all of it is tokens (2), and no round bracket is one too
 // many (3).
 ghost use mathlib.Core.Path.{_≡_};
-ghost use Rattle.lexer.specs.Scan.{markBracket, bracketOf, scanOf};
+ghost use Rattle.lexer.specs.Scan.{punctuatorBracket, bracketOf, scanOf};
 ghost use Rattle.lexer.specs.Inner.{noneOver, openedAt, closedBy, nextBrackets, bracketVerdict};
-use crate::mark::CLOSE_ROUND;
-use crate::mark::OPEN_ROUND;
+use crate::punctuator::CLOSE_ROUND;
+use crate::punctuator::OPEN_ROUND;
 use crate::token::Lexeme;
 use crate::token::Token;
 use crate::token::token_at;
@@ -31,13 +31,13 @@ struct Brackets {
 
 const MOST_OPEN: usize = 32;
 
-fn mark_bracket(mark: u8) -> Bracket
-    ensures { λ r. ⌜ r ≡ markBracket mark ⌝ }
+fn punctuator_bracket(number: u8) -> Bracket
+    ensures { λ r. ⌜ r ≡ punctuatorBracket number ⌝ }
 {
-    if mark == OPEN_ROUND {
+    if number == OPEN_ROUND {
         return Bracket::Opens;
     }
-    if mark == CLOSE_ROUND {
+    if number == CLOSE_ROUND {
         return Bracket::Closes;
     }
     Bracket::Neither
@@ -54,7 +54,7 @@ fn bracket_of(token: Token) -> Bracket
         Token::String => Bracket::Neither,
         Token::Variable => Bracket::Neither,
         Token::Word(_) => Bracket::Neither,
-        Token::Mark(mark) => mark_bracket(mark),
+        Token::Punctuator(number) => punctuator_bracket(number),
     }
 }
 

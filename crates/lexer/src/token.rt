@@ -3,15 +3,15 @@ ghost use mathlib.Core.Path.{_≡_};
 ghost use mathlib.Core.List.{_∷_};
 ghost use Prim.Native.Nat.{_<_, suc};
 ghost use lib.ListN.{length, getD, drop};
-ghost use Rattle.lexer.specs.Token.{lexemeAt, otherAt, stringAt, variableAt, wordAt, markAt};
+ghost use Rattle.lexer.specs.Token.{lexemeAt, otherAt, stringAt, variableAt, wordAt, punctuatorAt};
 use crate::bytes::Class;
 use crate::bytes::has_byte;
 use crate::bytes::is_name_length;
 use crate::bytes::is_quote;
 use crate::bytes::is_word_start;
 use crate::bytes::run_end;
-use crate::mark::Spelled;
-use crate::mark::spelled_at;
+use crate::punctuator::Spelled;
+use crate::punctuator::spelled_at;
 use crate::word::word_number;
 use number::decimal;
 
@@ -24,8 +24,8 @@ pub enum Token {
     Variable,
     // By its number in `word`.
     Word(u8),
-    // By its number in `mark`.
-    Mark(u8),
+    // By its number in `punctuator`.
+    Punctuator(u8),
 }
 
 // What stands at a place, from `at` up to `end`.
@@ -85,14 +85,14 @@ fn word_at(text: &[u8], at: usize) -> Lexeme
     }
 }
 
-// The mark at a place, or what is refused there.
-fn mark_at(text: &[u8], at: usize) -> Lexeme
+// The punctuator at a place, or what is refused there.
+fn punctuator_at(text: &[u8], at: usize) -> Lexeme
     requires { ⌜ at < length (now text) ⌝ }
-    ensures { λ r. ⌜ r ≡ markAt at (drop at (now (text .entry))) ⌝ }
+    ensures { λ r. ⌜ r ≡ punctuatorAt at (drop at (now (text .entry))) ⌝ }
 {
     match spelled_at(text, at) {
         Spelled::Listed { number, length } => Lexeme::Found {
-            token: Token::Mark(number),
+            token: Token::Punctuator(number),
             at,
             end: at + length,
         },
@@ -118,7 +118,7 @@ fn other_at(text: &[u8], at: usize) -> Lexeme
     if is_word_start(b) {
         return word_at(text, at);
     }
-    mark_at(text, at)
+    punctuator_at(text, at)
 }
 
 // What stands at a place, after spaces. The end of one token is where the next is looked for.

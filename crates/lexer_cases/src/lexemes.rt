@@ -5,8 +5,8 @@ use lexer::token;
 use lexer::token::Lexeme;
 use lexer::token::Token;
 
-// The kind: N number, S string, V variable, W word, M mark, B bad, E end, and ? for a line that is
-// malformed. The value: a number's digits after the point, or a place in a list.
+// The kind: N number, S string, V variable, W word, P punctuator, B bad, E end, and ? for a line
+// that is malformed. The value: a number's digits after the point, or a place in a list.
 pub(crate) struct Answer {
     pub(crate) kind: u8,
     pub(crate) value: u64,
@@ -41,7 +41,7 @@ fn of_token(t: Token, at: u64, end: u64) -> Answer {
         Token::String => plain(b'S', 0, at, end),
         Token::Variable => plain(b'V', 0, at, end),
         Token::Word(k) => plain(b'W', k as u64, at, end),
-        Token::Mark(k) => plain(b'M', k as u64, at, end),
+        Token::Punctuator(k) => plain(b'P', k as u64, at, end),
     }
 }
 

@@ -41,7 +41,7 @@ fn run(name: &[u8], s: Subject) -> Tally {
 }
 
 fn single_tokens() -> Tally {
-    let mut t = run(b"marks", Subject::Texts);
+    let mut t = run(b"punctuators", Subject::Texts);
     t = sum(t, run(b"bytes", Subject::Texts));
     t = sum(t, run(b"numbers", Subject::Texts));
     t = sum(t, run(b"variables", Subject::Texts));

@@ -10,16 +10,16 @@ use Rattle.number.specs.declared.decimal.Decimal.{Decimal}
 use Rattle.number.specs.declared.decimal.Decimal.the-variants as decimal
 use Rattle.number.proofs.Law.Reading.{EndsWithin, read-within}
 use Rattle.lexer.specs.Bytes.{isSpace, isNameByte, isNameLength, inClass, run, begins}
-use Rattle.lexer.specs.Mark.{spelledBy}
-use Rattle.lexer.specs.Token.{Start, startingAt, stringAt, variableAt, wordAt, marked, markAt, otherAt, numberOr, firstAt, lexemeAt}
+use Rattle.lexer.specs.Punctuator.{spelledBy}
+use Rattle.lexer.specs.Token.{Start, startingAt, stringAt, variableAt, wordAt, lexemeOf, punctuatorAt, otherAt, numberOr, firstAt, lexemeAt}
 use Rattle.lexer.specs.declared.bytes.Class.the-variants.{Inside}
-use Rattle.lexer.specs.declared.mark.Spelled.{Spelled}
-use Rattle.lexer.specs.declared.mark.Spelled.the-variants.{Listed, Refused}
+use Rattle.lexer.specs.declared.punctuator.Spelled.{Spelled}
+use Rattle.lexer.specs.declared.punctuator.Spelled.the-variants.{Listed, Refused}
 use Rattle.lexer.specs.declared.token.Lexeme.{Lexeme}
 use Rattle.lexer.specs.declared.token.Lexeme.the-variants.{Found, Bad, End}
 use Rattle.lexer.proofs.Law.Runs.{by-test, run-cons, run-le, byte-within}
 use Rattle.lexer.proofs.Law.Forms.{start-cases, start-byte}
-use Rattle.lexer.proofs.Law.Marks.{taken, spelled-takes}
+use Rattle.lexer.proofs.Law.Punctuators.{taken, spelled-takes}
 
 -- from a place up to a limit
 pub record Between (from limit at end : ℕ) : Type 0 where
@@ -60,17 +60,17 @@ module _ (at limit : ℕ) (bs : List ℕ) (h : at + suc (length bs) ≤ limit) w
       let l = run-le isNameByte bs in
       record { starts = omega arith; goes = omega arith; ends = omega arith }
 
-  marked-ahead : (s : Spelled) → (0 < taken s) × (taken s ≤ suc (length bs)) → Ahead at limit (marked at s)
-  marked-ahead (Listed k n) s = record { starts = omega arith; goes = omega (arith, s); ends = omega (arith, s) }
-  marked-ahead (Refused n) s = record { starts = omega arith; goes = omega (arith, s); ends = omega (arith, s) }
+  spelled-ahead : (s : Spelled) → (0 < taken s) × (taken s ≤ suc (length bs)) → Ahead at limit (lexemeOf at s)
+  spelled-ahead (Listed k n) s = record { starts = omega arith; goes = omega (arith, s); ends = omega (arith, s) }
+  spelled-ahead (Refused n) s = record { starts = omega arith; goes = omega (arith, s); ends = omega (arith, s) }
 
-  mark-ahead : (b : ℕ) → Ahead at limit (markAt at (b ∷ bs))
-  unfolding markAt
-  mark-ahead b = marked-ahead (spelledBy (b ∷ bs)) (spelled-takes (b ∷ bs) (omega arith))
+  punctuator-ahead : (b : ℕ) → Ahead at limit (punctuatorAt at (b ∷ bs))
+  unfolding punctuatorAt
+  punctuator-ahead b = spelled-ahead (spelledBy (b ∷ bs)) (spelled-takes (b ∷ bs) (omega arith))
 
   other-ahead : (b : ℕ) → Ahead at limit (otherAt at b bs)
   unfolding otherAt
-  other-ahead b = start-cases (λ (s : Start). Ahead at limit (startingAt s at b bs)) b (λ e. string-ahead b) (λ e. variable-ahead) (λ e. word-ahead b (start-byte b e)) (mark-ahead b)
+  other-ahead b = start-cases (λ (s : Start). Ahead at limit (startingAt s at b bs)) b (λ e. string-ahead b) (λ e. variable-ahead) (λ e. word-ahead b (start-byte b e)) (punctuator-ahead b)
 
 number-ahead : (text : List ℕ) (at b : ℕ) (bs : List ℕ) (d : Decimal) → at + suc (length bs) ≤ length text → EndsWithin text at d → Ahead at (length text) (numberOr d at b bs)
 number-ahead text at b bs (decimal.Number end n k) h e = record { starts = omega arith; goes = e .0; ends = e .1 }

@@ -12,7 +12,7 @@ use lib.Seq.{drop-cons, drop-drop}
 use Rattle.number.specs.Decimal.{readAt}
 use Rattle.number.specs.declared.decimal.Decimal.{Decimal}
 use Rattle.lexer.specs.Bytes.{isQuote, isLetter, isWordStart, isNameByte, isNameLength, inClass, run, begins, placeIn}
-use Rattle.lexer.specs.Token.{literalWords, stringAt, variableAt, wordAt, markAt, Start, quote, dollar, letter, other, startOf, startingAt, otherAt, numberOr, firstAt, lexemeAt}
+use Rattle.lexer.specs.Token.{literalWords, stringAt, variableAt, wordAt, punctuatorAt, Start, quote, dollar, letter, other, startOf, startingAt, otherAt, numberOr, firstAt, lexemeAt}
 use Rattle.lexer.specs.declared.bytes.Class.the-variants.{Space, Name, Inside}
 use Rattle.lexer.specs.declared.token.Token.the-variants.{String, Variable, Word}
 use Rattle.lexer.specs.declared.token.Lexeme.the-variants.{Found, Bad, End}
@@ -109,9 +109,9 @@ module _ (text : List ℕ) (at : ℕ) where
       wordAt at (drop at text) ≡ otherAt at (getD text at 0) (drop (suc at) text)
   other-word h q d w = ap (wordAt at) (drop-cons text at 0 h) ∙ starts letter at (getD text at 0) (drop (suc at) text) (with-letter _ q d w)
 
-  pub other-mark : at < length text → isQuote (getD text at 0) ≡ false → (getD text at 0 ≡ 36 → ⊥) → isWordStart (getD text at 0) ≡ false →
-      markAt at (drop at text) ≡ otherAt at (getD text at 0) (drop (suc at) text)
-  other-mark h q d w = ap (markAt at) (drop-cons text at 0 h) ∙ starts other at (getD text at 0) (drop (suc at) text) (with-other _ q d w)
+  pub other-punctuator : at < length text → isQuote (getD text at 0) ≡ false → (getD text at 0 ≡ 36 → ⊥) → isWordStart (getD text at 0) ≡ false →
+      punctuatorAt at (drop at text) ≡ otherAt at (getD text at 0) (drop (suc at) text)
+  other-punctuator h q d w = ap (punctuatorAt at) (drop-cons text at 0 h) ∙ starts other at (getD text at 0) (drop (suc at) text) (with-other _ q d w)
 
 -- ---- after spaces
 

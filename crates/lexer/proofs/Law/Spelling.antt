@@ -14,13 +14,13 @@ use lib.Seq.{slice, take-nil, take-add, drop-append-seam}
 use Rattle.number.specs.Decimal.{isDigit, IsNumber}
 use Rattle.number.specs.Decimal as decimal
 use Rattle.lexer.specs.Bytes.{isQuote, isWordStart, isNameByte, isNameLength, inClass, run, begins, same, placeIn}
-use Rattle.lexer.specs.Mark.{marks, refusedMarks}
+use Rattle.lexer.specs.Punctuator.{punctuators, refusedOperators}
 use Rattle.lexer.specs.Token.{Start, quote, dollar, letter, other, startOf}
-use Rattle.lexer.specs.Spelling.{All, IsDecimal, whole, pointed, Spells, number, string, variable, word, mark, Refuses, long-number, refused-mark, NoLonger}
+use Rattle.lexer.specs.Spelling.{All, IsDecimal, whole, pointed, Spells, number, string, variable, word, punctuator, Refuses, long-number, refused-operator, NoLonger}
 use Rattle.lexer.specs.declared.bytes.Class.the-variants.{Inside}
 use Rattle.lexer.specs.declared.token.Token.{Token}
 use Rattle.lexer.proofs.Law.Runs.{run-cons, run-nil}
-use Rattle.lexer.proofs.Law.Marks.{allOf}
+use Rattle.lexer.proofs.Law.Punctuators.{allOf}
 
 -- ---- runs
 
@@ -144,7 +144,7 @@ starts-digit b e =
     let high : b ≤ 57 = leb-true b 57 (h .1) in
     above-quotes b (omega arith) ∙ rw (below-letters b (omega arith))
 
--- a mark begins with a byte that begins nothing else
+-- a punctuator begins with a byte that begins nothing else
 abbrev pub isOther : Start → Bool
 isOther quote = false
 isOther dollar = false
@@ -157,9 +157,9 @@ is-other dollar e = absurd (false≢true e)
 is-other letter e = absurd (false≢true e)
 is-other other e = refl
 
-abbrev onlyMark : List ℕ → Bool
-onlyMark [] = false
-onlyMark (b ∷ bs) = not (isDigit b) && isOther (startOf b)
+abbrev onlyPunctuator : List ℕ → Bool
+onlyPunctuator [] = false
+onlyPunctuator (b ∷ bs) = not (isDigit b) && isOther (startOf b)
 
 pub of-all : (p : List ℕ → Bool) (ss : List (List ℕ)) (s : List ℕ) → allOf p ss ≡ true → List·Memᴰ s ss → p s ≡ true
 of-all p [] s e m = absurd (List·Memᴰ·not-nil m)
@@ -169,10 +169,10 @@ of-all p (t ∷ ss) s e m = go (List·Memᴰ·cases-cons m) (and-eq-true-iff (p 
     go (inl q) h ih = ap p q ∙ h .0
     go (inr k) h ih = ih (h .1) k
 
-pub mark-first : (s q : List ℕ) (b : ℕ) (bs : List ℕ) → List·Memᴰ s (marks ++ refusedMarks) → s ++ q ≡ b ∷ bs → (isDigit b ≡ false) × (startOf b ≡ other)
-mark-first s q b bs m e = go s e (of-all onlyMark (marks ++ refusedMarks) s refl m)
+pub punctuator-first : (s q : List ℕ) (b : ℕ) (bs : List ℕ) → List·Memᴰ s (punctuators ++ refusedOperators) → s ++ q ≡ b ∷ bs → (isDigit b ≡ false) × (startOf b ≡ other)
+punctuator-first s q b bs m e = go s e (of-all onlyPunctuator (punctuators ++ refusedOperators) s refl m)
   where
-    go : (l : List ℕ) → l ++ q ≡ b ∷ bs → onlyMark l ≡ true → (isDigit b ≡ false) × (startOf b ≡ other)
+    go : (l : List ℕ) → l ++ q ≡ b ∷ bs → onlyPunctuator l ≡ true → (isDigit b ≡ false) × (startOf b ≡ other)
     go [] i k = absurd (false≢true k)
     go (c ∷ l) i k =
         let h = and-eq-true-iff (not (isDigit c)) (isOther (startOf c)) .0 k in
@@ -185,7 +185,7 @@ abbrev pub Form : Start → ℕ → List ℕ → ℕ → Type 0
 Form quote b bs n = (s q : List ℕ) × All (inClass (Inside b)) s × (s ++ b ∷ q ≡ bs) × (n ≡ length s + 2)
 Form dollar b bs n = (s q : List ℕ) × All isNameByte s × T (isNameLength (length s)) × (123 ∷ s ++ 125 ∷ q ≡ bs) × (n ≡ length s + 3)
 Form letter b bs n = (s q : List ℕ) × All isNameByte s × (s ++ q ≡ bs) × (n ≡ suc (length s))
-Form other b bs n = (s q : List ℕ) × List·Memᴰ s (marks ++ refusedMarks) × (s ++ q ≡ b ∷ bs) × (n ≡ length s)
+Form other b bs n = (s q : List ℕ) × List·Memᴰ s (punctuators ++ refusedOperators) × (s ++ q ≡ b ∷ bs) × (n ≡ length s)
 
 starting : (s : Start) (c b n : ℕ) (bs : List ℕ) → startOf c ≡ s → c ≡ b → Form s c bs n → Form (startOf b) b bs n
 starting s c b n bs k e f = subst (λ (x : ℕ). Form (startOf x) x bs n) e (subst (λ (i : Start). Form i c bs n) (sym k) f)
@@ -194,8 +194,8 @@ is-number : {s : List ℕ} {n k d : ℕ} → IsDecimal s n k d → IsNumber s
 is-number (whole h) = decimal.whole h
 is-number (pointed w f h d) = decimal.pointed w f h d
 
-mark-form : (s q : List ℕ) (b : ℕ) (bs : List ℕ) → List·Memᴰ s (marks ++ refusedMarks) → s ++ q ≡ b ∷ bs → Form (startOf b) b bs (length s)
-mark-form s q b bs m e = starting other b b (length s) bs (mark-first s q b bs m e .1) refl (s, q, m, e, refl)
+punctuator-form : (s q : List ℕ) (b : ℕ) (bs : List ℕ) → List·Memᴰ s (punctuators ++ refusedOperators) → s ++ q ≡ b ∷ bs → Form (startOf b) b bs (length s)
+punctuator-form s q b bs m e = starting other b b (length s) bs (punctuator-first s q b bs m e .1) refl (s, q, m, e, refl)
 
 spelled-form : {p : List ℕ} {t : Token} → Spells p t → (q : List ℕ) (b : ℕ) (bs : List ℕ) → p ++ q ≡ b ∷ bs → IsNumber p ⊎ Form (startOf b) b bs (length p)
 spelled-form (number d h) q b bs e = inl (is-number d)
@@ -206,11 +206,11 @@ spelled-form (variable s a h) q b bs e =
     inr (starting dollar 36 b _ bs refl (head-eq-of-cons-eq e)
     (s, q, a, h, ap (λ (l : List ℕ). 123 ∷ l) (sym (append-assoc s (125 ∷ []) q)) ∙ tail-eq-of-cons-eq e, omega (arith, length-append s (125 ∷ []))))
 spelled-form (word c s h a) q b bs e = inr (starting letter c b _ bs (starts-letter c (is-true _ h)) (head-eq-of-cons-eq e) (s, q, a, tail-eq-of-cons-eq e, refl))
-spelled-form (mark {s} m) q b bs e = inr (mark-form s q b bs (Memᴰ·append-left refusedMarks m) e)
+spelled-form (punctuator {s} m) q b bs e = inr (punctuator-form s q b bs (Memᴰ·append-left refusedOperators m) e)
 
 refused-form : {p : List ℕ} → Refuses p → (q : List ℕ) (b : ℕ) (bs : List ℕ) → p ++ q ≡ b ∷ bs → IsNumber p ⊎ Form (startOf b) b bs (length p)
 refused-form (long-number d h) q b bs e = inl (is-number d)
-refused-form (refused-mark {s} m) q b bs e = inr (mark-form s q b bs (Memᴰ·append-right marks m) e)
+refused-form (refused-operator {s} m) q b bs e = inr (punctuator-form s q b bs (Memᴰ·append-right punctuators m) e)
 
 -- so no token is longer than n bytes if no number is, nor any form that the first byte may start
 pub limited : (b : ℕ) (bs : List ℕ) (n : ℕ) → ((p q : List ℕ) → p ++ q ≡ b ∷ bs → IsNumber p → length p ≤ n) → ((m : ℕ) → Form (startOf b) b bs m → m ≤ n) → NoLonger n (b ∷ bs)

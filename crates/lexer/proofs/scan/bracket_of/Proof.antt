@@ -18,8 +18,8 @@ enum-told-4 c = search needs
 enum-known-token : tie.Need-enum-known-token
 enum-known-token c = search needs
 
-mark-bracket-requires : tie.Need-mark-bracket-requires
-mark-bracket-requires c κs = search needs
+punctuator-bracket-requires : tie.Need-punctuator-bracket-requires
+punctuator-bracket-requires c κs = search needs
 
 returns : tie.Need-returns
 returns c = search needs
@@ -34,7 +34,7 @@ returns-4 : tie.Need-returns-4
 returns-4 c = search needs
 
 returns-5 : tie.Need-returns-5
-returns-5 c = rw (c .before .before .token .given .1) (c .mark-bracket .ensures)
+returns-5 c = rw (c .before .before .token .given .1) (c .punctuator-bracket .ensures)
 
 pub bracket-of-spec : {M : Type 1} → statement M
 bracket-of-spec =
@@ -45,7 +45,7 @@ bracket-of-spec =
     enum-told-3
     enum-told-4
     enum-known-token
-    mark-bracket-requires
+    punctuator-bracket-requires
     returns
     returns-2
     returns-3

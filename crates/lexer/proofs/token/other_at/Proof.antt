@@ -1,7 +1,7 @@
 -- `other_at` tells the form by the first byte, a law for each return.
 use mathlib.Core.Path.{sym, _∙_}
 use borrow.Author.Needs.{needs}
-use Rattle.lexer.proofs.Law.Forms.{other-string, other-variable, other-word, other-mark}
+use Rattle.lexer.proofs.Law.Forms.{other-string, other-variable, other-word, other-punctuator}
 use Rattle.lexer.proofs.token.other_at.Statement.{statement}
 use Rattle.lexer.proofs.token.other_at.Tie as tie
 
@@ -35,12 +35,12 @@ returns-3 : tie.Need-returns-3
 returns-3 c =
     c .word-at .ensures ∙ other-word (c .before .before .before .before .before .before .before .before .args .text .now) _ (c .before .before .before .before .before .before .before .before .pre) (sym (c .before .before .before .before .before .is-quote .ensures) ∙ c .before .before .before .before .if1 .left) (c .before .before .before .if2 .left) (sym (c .before .before .is-word-start .ensures) ∙ c .before .if3 .taken)
 
-mark-at-requires : tie.Need-mark-at-requires
-mark-at-requires c κs = search needs
+punctuator-at-requires : tie.Need-punctuator-at-requires
+punctuator-at-requires c κs = search needs
 
 returns-4 : tie.Need-returns-4
 returns-4 c =
-    c .mark-at .ensures ∙ other-mark (c .before .before .before .before .before .before .before .before .args .text .now) _ (c .before .before .before .before .before .before .before .before .pre) (sym (c .before .before .before .before .before .is-quote .ensures) ∙ c .before .before .before .before .if1 .left) (c .before .before .before .if2 .left) (sym (c .before .before .is-word-start .ensures) ∙ c .before .if3 .left)
+    c .punctuator-at .ensures ∙ other-punctuator (c .before .before .before .before .before .before .before .before .args .text .now) _ (c .before .before .before .before .before .before .before .before .pre) (sym (c .before .before .before .before .before .is-quote .ensures) ∙ c .before .before .before .before .if1 .left) (c .before .before .before .if2 .left) (sym (c .before .before .is-word-start .ensures) ∙ c .before .if3 .left)
 
 pub other-at-spec : {M : Type 1} → statement M
 other-at-spec =
@@ -55,5 +55,5 @@ other-at-spec =
     is-word-start-requires
     word-at-requires
     returns-3
-    mark-at-requires
+    punctuator-at-requires
     returns-4)

@@ -1,8 +1,8 @@
 -- `spelled_at` reads three bytes, which are all that a spelling has.
 use borrow.Author.Needs.{needs}
-use Rattle.lexer.proofs.Law.Marks.{by-three}
-use Rattle.lexer.proofs.mark.spelled_at.Statement.{statement}
-use Rattle.lexer.proofs.mark.spelled_at.Tie as tie
+use Rattle.lexer.proofs.Law.Punctuators.{by-three}
+use Rattle.lexer.proofs.punctuator.spelled_at.Statement.{statement}
+use Rattle.lexer.proofs.punctuator.spelled_at.Tie as tie
 
 byte-after-requires : tie.Need-byte-after-requires
 byte-after-requires c κs = search needs

@@ -1,4 +1,4 @@
--- What the functions that tell marks lean on: laws over any list of spellings, so that nothing is worked out at a text that is not known.
+-- What the functions that tell punctuators lean on: laws over any list of spellings, so that nothing is worked out at a text that is not known.
 use mathlib.Core.Path.{_≡_, refl, sym, _∙_, ap, ap₂}
 use mathlib.Core.Bool.{Bool, true, false, cond, not, _&&_, _||_, false≢true, and-eq-true-iff}
 use mathlib.Core.List.{List, [], _∷_, _++_, List·Memᴰ, List·Memᴰ·head, List·Memᴰ·tail}
@@ -8,10 +8,10 @@ use borrow.Author.Tests.{eqb-true, ne-eqb, not-true}
 use lib.Dec.{eqb, leb, ltb, lit<}
 use lib.ListN.{length, getD, drop, length-drop}
 use Rattle.lexer.specs.Bytes.{begins, placeIn}
-use Rattle.lexer.specs.Mark.{marks, refusedMarks, longerIf, longestOf, judged, spelledBy}
-use Rattle.lexer.specs.Token.{marked, markAt}
-use Rattle.lexer.specs.declared.mark.Spelled.{Spelled}
-use Rattle.lexer.specs.declared.mark.Spelled.the-variants.{Listed, Refused}
+use Rattle.lexer.specs.Punctuator.{punctuators, refusedOperators, longerIf, longestOf, judged, spelledBy}
+use Rattle.lexer.specs.Token.{lexemeOf, punctuatorAt}
+use Rattle.lexer.specs.declared.punctuator.Spelled.{Spelled}
+use Rattle.lexer.specs.declared.punctuator.Spelled.the-variants.{Listed, Refused}
 
 -- ---- a test of every spelling in a list
 
@@ -42,7 +42,7 @@ taken (Refused n) = n
 
 judged-takes : (s : List ℕ) (m : ℕ) → length s ≤ m → 0 < m → (0 < taken (judged s)) × (taken (judged s) ≤ m)
 judged-takes [] m h k = (lit< tt, k)
-judged-takes (b ∷ bs) m h k = go (ltb (placeIn marks (b ∷ bs)) (length marks)) (placeIn marks (b ∷ bs))
+judged-takes (b ∷ bs) m h k = go (ltb (placeIn punctuators (b ∷ bs)) (length punctuators)) (placeIn punctuators (b ∷ bs))
   where
     go : (t : Bool) (i : ℕ) → let r = cond t (Listed i (suc (length bs))) (Refused (suc (length bs))) in (0 < taken r) × (taken r ≤ m)
     go true i = (omega arith, h)
@@ -51,15 +51,15 @@ judged-takes (b ∷ bs) m h k = go (ltb (placeIn marks (b ∷ bs)) (length marks
 -- something is taken of a text that has a byte, and nothing past its end
 pub spelled-takes : (text : List ℕ) → 0 < length text → (0 < taken (spelledBy text)) × (taken (spelledBy text) ≤ length text)
 unfolding spelledBy
-spelled-takes text = judged-takes (longestOf (marks ++ refusedMarks) text) (length text) (longest-is (λ s. length s ≤ length text) (marks ++ refusedMarks) text (omega arith) (λ s m. begins-fits s text))
+spelled-takes text = judged-takes (longestOf (punctuators ++ refusedOperators) text) (length text) (longest-is (λ s. length s ≤ length text) (punctuators ++ refusedOperators) text (omega arith) (λ s m. begins-fits s text))
 
 -- the same, of a place in a text
-pub mark-takes : (text : List ℕ) (at : ℕ) (r : Spelled) → at < length text → r ≡ spelledBy (drop at text) → (0 < taken r) × (at + taken r ≤ length text)
-mark-takes text at r h e = rw e (let l = length-drop at text in let t = spelled-takes (drop at text) (omega (arith, l)) in (t .0, omega (arith, l, t .1)))
+pub punctuator-takes : (text : List ℕ) (at : ℕ) (r : Spelled) → at < length text → r ≡ spelledBy (drop at text) → (0 < taken r) × (at + taken r ≤ length text)
+punctuator-takes text at r h e = rw e (let l = length-drop at text in let t = spelled-takes (drop at text) (omega (arith, l)) in (t .0, omega (arith, l, t .1)))
 
-pub mark-is : (at : ℕ) (text : List ℕ) (r : Spelled) → r ≡ spelledBy (drop at text) → marked at r ≡ markAt at (drop at text)
-unfolding markAt
-mark-is at text r e = ap (marked at) e
+pub punctuator-is : (at : ℕ) (text : List ℕ) (r : Spelled) → r ≡ spelledBy (drop at text) → lexemeOf at r ≡ punctuatorAt at (drop at text)
+unfolding punctuatorAt
+punctuator-is at text r e = ap (lexemeOf at) e
 
 -- ---- a byte that begins no spelling
 
@@ -92,9 +92,9 @@ none-begins ks ((x ∷ s) ∷ ss) b bs r e =
     let h = and-eq-true-iff (among ks x) (allOf (begun ks) ss) .0 e in
     rw (ne-eqb b x (apart ks b x r (h .0)), none-begins ks ss b bs r (h .1))
 
-pub unlisted : (ks : List ℕ) → allOf (begun ks) (marks ++ refusedMarks) ≡ true → (b : ℕ) (bs : List ℕ) → Apart ks b → Refused 1 ≡ spelledBy (b ∷ bs)
+pub unlisted : (ks : List ℕ) → allOf (begun ks) (punctuators ++ refusedOperators) ≡ true → (b : ℕ) (bs : List ℕ) → Apart ks b → Refused 1 ≡ spelledBy (b ∷ bs)
 unfolding spelledBy
-unlisted ks e b bs r = sym (ap judged (none-begins ks (marks ++ refusedMarks) b bs r e))
+unlisted ks e b bs r = sym (ap judged (none-begins ks (punctuators ++ refusedOperators) b bs r e))
 
 -- ---- zeros after a text
 
@@ -130,7 +130,7 @@ three (b ∷ c ∷ d ∷ bs) = refl
 
 pub by-three : (text : List ℕ) → spelledBy (getD text 0 0 ∷ getD text 1 0 ∷ getD text 2 0 ∷ []) ≡ spelledBy text
 unfolding spelledBy
-by-three text = ap judged (ap (longestOf (marks ++ refusedMarks)) (three text) ∙ longest-padded 3 (marks ++ refusedMarks) text refl)
+by-three text = ap judged (ap (longestOf (punctuators ++ refusedOperators)) (three text) ∙ longest-padded 3 (punctuators ++ refusedOperators) text refl)
 
 -- ---- a byte that begins some spellings
 

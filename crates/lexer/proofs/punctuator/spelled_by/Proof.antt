@@ -2,11 +2,11 @@
 use mathlib.Core.Path.{refl, _∙_}
 use mathlib.Core.List.{[], _∷_}
 use borrow.Author.Needs.{needs}
-use Rattle.lexer.specs.Mark.{spelledBy}
-use Rattle.lexer.specs.declared.mark.Spelled.the-variants.{Listed, Refused}
-use Rattle.lexer.proofs.Law.Marks.{unlisted, by-second, by-equals, by-not}
-use Rattle.lexer.proofs.mark.spelled_by.Statement.{statement}
-use Rattle.lexer.proofs.mark.spelled_by.Tie as tie
+use Rattle.lexer.specs.Punctuator.{spelledBy}
+use Rattle.lexer.specs.declared.punctuator.Spelled.the-variants.{Listed, Refused}
+use Rattle.lexer.proofs.Law.Punctuators.{unlisted, by-second, by-equals, by-not}
+use Rattle.lexer.proofs.punctuator.spelled_by.Statement.{statement}
+use Rattle.lexer.proofs.punctuator.spelled_by.Tie as tie
 
 listed-requires : tie.Need-listed-requires
 listed-requires c κs = search needs

@@ -1,25 +1,25 @@
--- Marks, the longest of which is taken: page 01, "Tokens and grammar".
+-- Punctuators, the longest of which is taken: page 01, "Tokens and grammar".
 use mathlib.Core.Bool.{Bool, true, false, cond, _&&_}
 use mathlib.Core.List.{List, [], _∷_, _++_}
 use Prim.Native.Nat.{ℕ}
 use lib.Dec.{leb, ltb}
 use lib.ListN.{length}
 use Rattle.lexer.specs.Bytes.{begins, placeIn}
-use Rattle.lexer.specs.declared.mark.Spelled.{Spelled}
-use Rattle.lexer.specs.declared.mark.Spelled.the-variants.{Listed, Refused}
+use Rattle.lexer.specs.declared.punctuator.Spelled.{Spelled}
+use Rattle.lexer.specs.declared.punctuator.Spelled.the-variants.{Listed, Refused}
 
--- "Operators: `? : || && === !== < <= > >= + - * / % !`, and `( ) [ ] , .`": a mark's number is its place in this list. `!` is 33, `%` 37, `&` 38, `(` 40, `)` 41, `*` 42,
+-- "Operators: `? : || && === !== < <= > >= + - * / % !`, and `( ) [ ] , .`": a punctuator's number is its place in this list. `!` is 33, `%` 37, `&` 38, `(` 40, `)` 41, `*` 42,
 -- `+` 43, `,` 44, `-` 45, `.` 46, `/` 47, `:` 58, `<` 60, `=` 61, `>` 62, `?` 63, `[` 91, `]` 93, `|` 124 and `~` 126.
-abbrev pub marks : List (List ℕ)
-marks =
+abbrev pub punctuators : List (List ℕ)
+punctuators =
     (63 ∷ []) ∷ (58 ∷ []) ∷ (124 ∷ 124 ∷ []) ∷ (38 ∷ 38 ∷ []) ∷ (61 ∷ 61 ∷ 61 ∷ []) ∷ (33 ∷ 61 ∷ 61 ∷ [])
     ∷ (60 ∷ []) ∷ (60 ∷ 61 ∷ []) ∷ (62 ∷ []) ∷ (62 ∷ 61 ∷ [])
     ∷ (43 ∷ []) ∷ (45 ∷ []) ∷ (42 ∷ []) ∷ (47 ∷ []) ∷ (37 ∷ []) ∷ (33 ∷ [])
     ∷ (40 ∷ []) ∷ (41 ∷ []) ∷ (91 ∷ []) ∷ (93 ∷ []) ∷ (44 ∷ []) ∷ (46 ∷ []) ∷ []
 
 -- "`--` and `++` are refused with 2, as are `==`, `!=`, `=~`"
-abbrev pub refusedMarks : List (List ℕ)
-refusedMarks = (45 ∷ 45 ∷ []) ∷ (43 ∷ 43 ∷ []) ∷ (61 ∷ 61 ∷ []) ∷ (33 ∷ 61 ∷ []) ∷ (61 ∷ 126 ∷ []) ∷ []
+abbrev pub refusedOperators : List (List ℕ)
+refusedOperators = (45 ∷ 45 ∷ []) ∷ (43 ∷ 43 ∷ []) ∷ (61 ∷ 61 ∷ []) ∷ (33 ∷ 61 ∷ []) ∷ (61 ∷ 126 ∷ []) ∷ []
 
 -- the longer of two spellings
 abbrev pub longer : List ℕ → List ℕ → List ℕ
@@ -38,7 +38,7 @@ longestOf (s ∷ ss) text = longerIf (begins s text) s (longestOf ss text)
 -- What the longest is. A text that begins with none has a byte there that is not listed, as "a lone `&`" or one outside 0x20 to 0x7E.
 abbrev pub judged : List ℕ → Spelled
 judged [] = Refused 1
-judged (b ∷ bs) = cond (ltb (placeIn marks (b ∷ bs)) (length marks)) (Listed (placeIn marks (b ∷ bs)) (length (b ∷ bs))) (Refused (length (b ∷ bs)))
+judged (b ∷ bs) = cond (ltb (placeIn punctuators (b ∷ bs)) (length punctuators)) (Listed (placeIn punctuators (b ∷ bs)) (length (b ∷ bs))) (Refused (length (b ∷ bs)))
 
 unfoldable pub spelledBy : List ℕ → Spelled
-spelledBy text = judged (longestOf (marks ++ refusedMarks) text)
+spelledBy text = judged (longestOf (punctuators ++ refusedOperators) text)

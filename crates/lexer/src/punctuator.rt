@@ -1,14 +1,14 @@
-// Marks (operators, brackets, the comma and the dot), and the operators that are refused.
+// Punctuators (operators, brackets, the comma and the dot), and the operators that are refused.
 ghost use mathlib.Core.Path.{_≡_};
 ghost use mathlib.Core.Bool.{cond};
 ghost use mathlib.Core.List.{_∷_, []};
 ghost use Prim.Native.Nat.{_≤_};
 ghost use lib.ListN.{length, drop};
-ghost use Rattle.lexer.specs.declared.mark.Spelled.the-variants.{Listed, Refused};
-ghost use Rattle.lexer.specs.Mark.{spelledBy};
+ghost use Rattle.lexer.specs.declared.punctuator.Spelled.the-variants.{Listed, Refused};
+ghost use Rattle.lexer.specs.Punctuator.{spelledBy};
 use crate::bytes::byte_after;
 
-// A mark's number is its place in page 01's list, where binary operators stand by precedence,
+// A punctuator's number is its place in page 01's list, where binary operators stand by precedence,
 // lowest first.
 pub const QUESTION: u8 = 0;
 
