@@ -1,6 +1,5 @@
 // The token at a place.
 ghost use mathlib.Core.Path.{_≡_};
-ghost use mathlib.Core.List.{_∷_};
 ghost use Prim.Native.Nat.{_<_, suc};
 ghost use lib.ListN.{length, getD, drop};
 ghost use Rattle.lexer.specs.Token.{lexemeAt, otherAt, stringAt, variableAt, wordAt, punctuatorAt};

@@ -84,7 +84,7 @@ slice-is (suc f) (suc t) (b ∷ l) = rw (suc-sub-suc t f) (slice-is f t l)
 
 -- ---- spellings in a list
 
-same-eq : (s t : List ℕ) → same s t ≡ true → s ≡ t
+pub same-eq : (s t : List ℕ) → same s t ≡ true → s ≡ t
 same-eq [] [] e = refl
 same-eq [] (y ∷ t) e = absurd (false≢true e)
 same-eq (x ∷ s) [] e = absurd (false≢true e)
@@ -92,7 +92,7 @@ same-eq (x ∷ s) (y ∷ t) e =
     let h = and-eq-true-iff (eqb x y) (same s t) .0 e in
     ap₂ (λ (c : ℕ) (l : List ℕ). c ∷ l) (eqb-true x y (h .0)) (same-eq s t (h .1))
 
-same-self : (s : List ℕ) → same s s ≡ true
+pub same-self : (s : List ℕ) → same s s ≡ true
 same-self [] = refl
 same-self (x ∷ s) = rw (eq-eqb x x refl, same-self s)
 

@@ -1,0 +1,4 @@
+-- Theorems about the definitions
+pub mod Basics
+-- What the functions' proofs lean on
+pub mod Law

@@ -1,0 +1,6 @@
+pub mod Tests
+pub mod Operations
+pub mod Rules
+pub mod Choices
+pub mod Signatures
+pub mod Sweeps

@@ -1,0 +1,46 @@
+-- `value_cases::case::with_text` is safe: the part of the room that it lends is as long as asked.
+-- Assumes nothing.
+use mathlib.Core.Path.{sym}
+use lib.Seq.{length-take-le}
+use native.Mathlib.Omega.{arith}
+use borrow.Author.Needs.{needs}
+use Rattle.value_cases.proofs.case.with_text.Statement.{statement}
+use Rattle.value_cases.proofs.case.with_text.Tie as tie
+
+text-length-requires : tie.Need-text-length-requires
+text-length-requires c κs = search needs
+
+buffer-requires : tie.Need-buffer-requires
+buffer-requires c κs = search needs
+
+array-borrow-prefix-room : tie.Need-array-borrow-prefix-room
+array-borrow-prefix-room c = search needs
+
+slice-aggregate-text-agrees : tie.Need-slice-aggregate-text-agrees
+slice-aggregate-text-agrees c =
+    sym (length-take-le (c .before .before .before .text-length .result) (c .before .buffer .result) (omega arith))
+
+text-agrees-requires : tie.Need-text-agrees-requires
+text-agrees-requires c κs = search needs
+
+returns : tie.Need-returns
+returns c = search needs
+
+malformed-requires : tie.Need-malformed-requires
+malformed-requires c κs = search needs
+
+returns-2 : tie.Need-returns-2
+returns-2 c = search needs
+
+pub with-text-spec : {M : Type 1} → statement M
+with-text-spec =
+    tie.close
+    (tie.spec
+    text-length-requires
+    buffer-requires
+    array-borrow-prefix-room
+    slice-aggregate-text-agrees
+    text-agrees-requires
+    returns
+    malformed-requires
+    returns-2)
