@@ -55,6 +55,7 @@ pub fn dimension(kind: Kind) -> u8
     }
 }
 
+// Whether two kinds are one.
 pub fn is(kind: Kind, other: Kind) -> bool
     ensures { λ r. ⌜ r ≡ eqKind kind other ⌝ }
 {

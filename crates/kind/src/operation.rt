@@ -1,6 +1,6 @@
 // The operators, functions and picks of the style language.
 ghost use mathlib.Core.Path.{_≡_};
-ghost use Rattle.kind.specs.Operation.{sizeOf, indexOf};
+ghost use Rattle.kind.specs.Operation.{indexOf};
 
 // Functions of one number, which go by component.
 pub enum Unary {
@@ -93,20 +93,6 @@ pub enum Operation {
     Constructor(Constructor),
     Product(Product),
     Pick(Member),
-}
-
-// How many components a vector's constructor makes.
-pub(crate) fn size(constructor: Constructor) -> u8
-    ensures { λ r. ⌜ r ≡ sizeOf constructor ⌝ }
-{
-    match constructor {
-        Constructor::Vec2 => 2,
-        Constructor::Vec3 => 3,
-        Constructor::Vec4 => 4,
-        Constructor::Rgb => 0,
-        Constructor::Rgba => 0,
-        Constructor::Color => 0,
-    }
 }
 
 // Which component a member is, from 0.

@@ -2,6 +2,8 @@
 use mathlib.Core.Bool.{Bool, true, false, cond, not, _&&_, _||_}
 use mathlib.Core.List.{List, [], _∷_}
 use Prim.Native.Nat.{ℕ, suc}
+use Prim.Native.Char.{code}
+use Prim.Native.String as text
 use lib.Dec.{eqb, leb}
 use Rattle.number.specs.Decimal.{isDigit}
 use Rattle.lexer.specs.declared.bytes.Class.{Class}
@@ -62,3 +64,8 @@ same (x ∷ xs) (y ∷ ys) = eqb x y && same xs ys
 abbrev pub placeIn : List (List ℕ) → List ℕ → ℕ
 placeIn [] s = 0
 placeIn (t ∷ ts) s = cond (same s t) 0 (suc (placeIn ts s))
+
+-- the bytes of a text that is all ASCII, as a name or a word
+abbrev pub ascii : text.String → List ℕ
+ascii text.[] = []
+ascii (text._∷_ c s) = code c ∷ ascii s

@@ -4,22 +4,21 @@ use mathlib.Core.List.{List, [], _∷_, _++_}
 use Prim.Native.Nat.{ℕ}
 use lib.Dec.{leb, ltb}
 use lib.ListN.{length}
-use Rattle.lexer.specs.Bytes.{begins, placeIn}
+use Rattle.lexer.specs.Bytes.{begins, placeIn, ascii}
 use Rattle.lexer.specs.declared.punctuator.Spelled.{Spelled}
 use Rattle.lexer.specs.declared.punctuator.Spelled.the-variants.{Listed, Refused}
 
--- "Operators: `? : || && === !== < <= > >= + - * / % !`, and `( ) [ ] , .`": a punctuator's number is its place in this list. `!` is 33, `%` 37, `&` 38, `(` 40, `)` 41, `*` 42,
--- `+` 43, `,` 44, `-` 45, `.` 46, `/` 47, `:` 58, `<` 60, `=` 61, `>` 62, `?` 63, `[` 91, `]` 93, `|` 124 and `~` 126.
+-- "Operators: `? : || && === !== < <= > >= + - * / % !`, and `( ) [ ] , .`": a punctuator's number is its place in this list.
 abbrev pub punctuators : List (List ℕ)
 punctuators =
-    (63 ∷ []) ∷ (58 ∷ []) ∷ (124 ∷ 124 ∷ []) ∷ (38 ∷ 38 ∷ []) ∷ (61 ∷ 61 ∷ 61 ∷ []) ∷ (33 ∷ 61 ∷ 61 ∷ [])
-    ∷ (60 ∷ []) ∷ (60 ∷ 61 ∷ []) ∷ (62 ∷ []) ∷ (62 ∷ 61 ∷ [])
-    ∷ (43 ∷ []) ∷ (45 ∷ []) ∷ (42 ∷ []) ∷ (47 ∷ []) ∷ (37 ∷ []) ∷ (33 ∷ [])
-    ∷ (40 ∷ []) ∷ (41 ∷ []) ∷ (91 ∷ []) ∷ (93 ∷ []) ∷ (44 ∷ []) ∷ (46 ∷ []) ∷ []
+    ascii "?" ∷ ascii ":" ∷ ascii "||" ∷ ascii "&&" ∷ ascii "===" ∷ ascii "!=="
+    ∷ ascii "<" ∷ ascii "<=" ∷ ascii ">" ∷ ascii ">=" ∷ ascii "+" ∷ ascii "-"
+    ∷ ascii "*" ∷ ascii "/" ∷ ascii "%" ∷ ascii "!" ∷ ascii "(" ∷ ascii ")"
+    ∷ ascii "[" ∷ ascii "]" ∷ ascii "," ∷ ascii "." ∷ []
 
 -- "`--` and `++` are refused with 2, as are `==`, `!=`, `=~`"
 abbrev pub refusedOperators : List (List ℕ)
-refusedOperators = (45 ∷ 45 ∷ []) ∷ (43 ∷ 43 ∷ []) ∷ (61 ∷ 61 ∷ []) ∷ (33 ∷ 61 ∷ []) ∷ (61 ∷ 126 ∷ []) ∷ []
+refusedOperators = ascii "--" ∷ ascii "++" ∷ ascii "==" ∷ ascii "!=" ∷ ascii "=~" ∷ []
 
 -- the longer of two spellings
 abbrev pub longer : List ℕ → List ℕ → List ℕ

@@ -8,7 +8,7 @@ use lib.Seq.{slice}
 use Rattle.number.specs.Decimal.{readAt}
 use Rattle.number.specs.declared.decimal.Decimal.{Decimal}
 use Rattle.number.specs.declared.decimal.Decimal.the-variants as decimal
-use Rattle.lexer.specs.Bytes.{isSpace, isQuote, isWordStart, isNameByte, isNameLength, inClass, run, begins, placeIn}
+use Rattle.lexer.specs.Bytes.{isSpace, isQuote, isWordStart, isNameByte, isNameLength, inClass, run, begins, placeIn, ascii}
 use Rattle.lexer.specs.Punctuator.{spelledBy}
 use Rattle.lexer.specs.declared.bytes.Class.the-variants.{Inside}
 use Rattle.lexer.specs.declared.punctuator.Spelled.{Spelled}
@@ -35,23 +35,16 @@ meaning bs = bs
 abbrev pub stringMeaning : List ℕ → ℕ → ℕ → List ℕ
 stringMeaning text at end = meaning (slice (at + 1) (end - 1) text)
 
--- "A variable is `${`, a name, `}` with no spaces; any other `$` is refused 2 at it." The bytes after the `$` are given; `{` is 123 and `}` is 125.
+-- "A variable is `${`, a name, `}` with no spaces; any other `$` is refused 2 at it." The bytes after the `$` are given.
 unfoldable pub variableAt : ℕ → List ℕ → Lexeme
 unfolding run
 variableAt at bs =
     let n = run isNameByte (drop 1 bs) in
-    cond ((begins (123 ∷ []) bs && isNameLength n) && begins (125 ∷ []) (drop (1 + n) bs)) (Found Variable at (at + (n + 3))) (Bad at (at + 1))
+    cond ((begins (ascii "{") bs && isNameLength n) && begins (ascii "}") (drop (1 + n) bs)) (Found Variable at (at + (n + 3))) (Bad at (at + 1))
 
 -- "`true`, `false`, `null`, `undefined`, `NaN`, `Infinity`", "the literal words": the number of one is its place in this list, and that of any other word is 6
 abbrev pub literalWords : List (List ℕ)
-literalWords =
-    (116 ∷ 114 ∷ 117 ∷ 101 ∷ [])
-    ∷ (102 ∷ 97 ∷ 108 ∷ 115 ∷ 101 ∷ [])
-    ∷ (110 ∷ 117 ∷ 108 ∷ 108 ∷ [])
-    ∷ (117 ∷ 110 ∷ 100 ∷ 101 ∷ 102 ∷ 105 ∷ 110 ∷ 101 ∷ 100 ∷ [])
-    ∷ (78 ∷ 97 ∷ 78 ∷ [])
-    ∷ (73 ∷ 110 ∷ 102 ∷ 105 ∷ 110 ∷ 105 ∷ 116 ∷ 121 ∷ [])
-    ∷ []
+literalWords = ascii "true" ∷ ascii "false" ∷ ascii "null" ∷ ascii "undefined" ∷ ascii "NaN" ∷ ascii "Infinity" ∷ []
 
 -- "A word is a letter or underscore, then letters, digits or underscores": the first byte is tested before
 unfoldable pub wordAt : ℕ → List ℕ → Lexeme

@@ -1,15 +1,15 @@
--- Hex digits, texts by their length, and the basic words by their numbers.
+-- Hex digits, and texts by their length.
 use mathlib.Core.Path.{_≡_, refl}
 use mathlib.Core.Bool.{cond}
 use mathlib.Core.List.{List, [], _∷_}
-use Prim.Native.Nat.{ℕ, zero, suc, _<_, _≤_}
+use Prim.Native.Nat.{ℕ, _<_}
 use native.Mathlib.Omega.{arith}
 use borrow.Author.Tests.{ne-eqb}
 use lib.Dec.{eqb}
 use lib.ListN.{length, getD, drop}
 use Rattle.number.specs.Decimal.{isDigit}
 use Rattle.lexer.proofs.Law.Runs.{by-test}
-use Rattle.colour.specs.Text.{Basic, colourIn, hexValue, shortHex, longHex, hexText}
+use Rattle.colour.specs.Text.{hexValue, shortHex, longHex, hexText}
 use Rattle.colour.specs.declared.text.Named.the-variants.{Unknown}
 
 -- ---- hex digits
@@ -36,10 +36,3 @@ hex-of (p ∷ r ∷ s ∷ g ∷ h ∷ b ∷ c ∷ []) = refl
 hex-of (p ∷ r ∷ s ∷ g ∷ h ∷ b ∷ c ∷ d ∷ ds) =
     let n = length (p ∷ r ∷ s ∷ g ∷ h ∷ b ∷ c ∷ d ∷ ds) in
     rw (ne-eqb n 4 (λ e. omega (arith, e)), ne-eqb n 7 (λ e. omega (arith, e)))
-
--- ---- basic words
-
-pub past : (cs : List Basic) (n : ℕ) → length cs ≤ n → colourIn cs n ≡ Unknown
-past [] n h = refl
-past (c ∷ cs) zero h = absurd (omega arith)
-past (c ∷ cs) (suc n) h = past cs n (omega arith)

@@ -1,28 +1,19 @@
--- The functions by their numbers, and the picks by their indices.
-use mathlib.Core.Path.{_≡_, refl, sym, _∙_, ap}
+-- Operations by their numbers, and members by their names.
+use mathlib.Core.Path.{_≡_, sym, _∙_, ap}
 use mathlib.Core.Bool.{false}
-use mathlib.Core.List.{List, [], _∷_, map}
-use Prim.Native.Nat.{ℕ, zero, suc, _<_, _≤_, _%_}
-use native.Mathlib.Omega.{arith}
+use mathlib.Core.List.{List, map}
+use Prim.Native.Nat.{ℕ, _<_, _≤_, _%_}
 use borrow.Author.Tests.{lt-ltb, le-ltb}
-use lib.ListN.{length}
+use lib.ListN.{length, drop, drop-of-length-le}
 use Rattle.lexer.specs.Bytes.{placeIn}
 use Rattle.words.specs.Table.{folded}
 use Rattle.words.proofs.Law.Words.{as-it-is}
-use Rattle.value.specs.Name.{Function, function, foundIn, memberNames, memberIndex, pickAt}
+use Rattle.value.specs.Name.{first, memberNames, memberIndex}
+use Rattle.kind.specs.declared.operation.Operation.{Operation}
 use Rattle.value.specs.declared.name.Found.the-variants.{Unknown}
 
-pub past : (fs : List Function) (n : ℕ) → length fs ≤ n → Unknown ≡ foundIn fs n
-past [] n h = refl
-past (function w o ∷ fs) zero h = absurd (omega arith)
-past (function w o ∷ fs) (suc n) h = past fs n (omega arith)
-
-pub past-picks : (i : ℕ) → 4 ≤ i → Unknown ≡ pickAt i
-past-picks zero h = absurd (omega arith)
-past-picks (suc zero) h = absurd (omega arith)
-past-picks (suc (suc zero)) h = absurd (omega arith)
-past-picks (suc (suc (suc zero))) h = absurd (omega arith)
-past-picks (suc (suc (suc (suc i)))) h = refl
+pub past : (os : List Operation) (n : ℕ) → length os ≤ n → Unknown ≡ first (drop n os)
+past os n h = ap first (sym (drop-of-length-le os h))
 
 -- the index of a member from the place of its name
 module _ (n : ℕ) (w : List ℕ) (e : n ≡ placeIn memberNames (map (folded false) w)) where

@@ -1,10 +1,10 @@
 -- `basic`: each constant is worked out from its bytes, and past the sixteen there is no colour.
-use mathlib.Core.Path.{sym}
+use mathlib.Core.Path.{sym, ap}
+use lib.ListN.{drop-of-length-le}
 use lib.Ieee.{ofBits, ofInt, div, round}
 use Rattle.words.proofs.Law.Arms.{above}
 use Rattle.colour.specs.Colour.{ofBytes, rgbOf, rgbaOf}
-use Rattle.colour.specs.Text.{basics, colourAt}
-use Rattle.colour.proofs.Law.Texts.{past}
+use Rattle.colour.specs.Text.{basics, first, colourAt}
 use Rattle.colour.proofs.text.basic.Statement.{statement}
 use Rattle.colour.proofs.text.basic.Tie as tie
 
@@ -74,8 +74,7 @@ returns-16 c = rw (c .match .keys16)
 
 returns-17 : tie.Need-returns-17
 unfolding colourAt
-returns-17 c =
-    sym (past basics _ (above 16 (c .before .args .number) (c .match .rest)))
+returns-17 c = ap first (sym (drop-of-length-le basics (above 16 (c .before .args .number) (c .match .rest))))
 
 pub basic-spec : {M : Type 1} → statement M
 basic-spec =

@@ -1,6 +1,7 @@
 -- `function_at` is the list of functions, and past its end there is none.
+use mathlib.Core.List.{map}
 use Rattle.words.proofs.Law.Arms.{above}
-use Rattle.value.specs.Name.{functions, functionAt}
+use Rattle.value.specs.Name.{functions, operation, functionAt}
 use Rattle.value.proofs.Law.Names.{past}
 use Rattle.value.proofs.name.function_at.Statement.{statement}
 use Rattle.value.proofs.name.function_at.Tie as tie
@@ -87,7 +88,7 @@ returns-20 c = rw (c .match .keys20)
 
 returns-21 : tie.Need-returns-21
 unfolding functionAt
-returns-21 c = past functions _ (above 20 (c .before .args .number) (c .match .rest))
+returns-21 c = past (map operation functions) _ (above 20 (c .before .args .number) (c .match .rest))
 
 pub function-at-spec : {M : Type 1} → statement M
 function-at-spec =
