@@ -1,0 +1,22 @@
+use borrow.Author.Needs.{needs}
+use Rattle.tree.proofs.slots.set_link.Statement.{statement}
+use Rattle.tree.proofs.slots.set_link.Tie as tie
+use Rattle.tree.proofs.slots.set_link.Reads as reads
+use Rattle.tree.proofs.slots.set_link.Lts as lts
+use Rattle.tree.proofs.slots.set_slot.Reads as set-slot-reads
+use Rattle.tree.proofs.slots.tag_at.Reads as tag-at-reads
+
+tag-at-requires : tie.Need-tag-at-requires
+tag-at-requires c κs = search needs
+
+set-slot-requires : tie.Need-set-slot-requires
+set-slot-requires c κs = search needs
+
+same-length : tie.Need-same-length
+same-length c = search needs
+
+returns : tie.Need-returns
+returns c = cc
+
+pub set-link-spec : {M : Type 1} → statement M
+set-link-spec = tie.close (tie.spec tag-at-requires set-slot-requires same-length returns)

@@ -1,0 +1,4 @@
+pub mod Tree
+pub mod Slots
+pub mod Node
+pub mod Fits
