@@ -1,0 +1,9 @@
+pub mod Symbols
+pub mod Steps
+pub mod Parts
+pub mod Picks
+pub mod Levels
+pub mod Nodes
+pub mod Heights
+pub mod Names
+pub mod Whole

@@ -1,0 +1,99 @@
+-- The picks of a part, path by path.
+use mathlib.Core.Path.{_≡_, refl, sym, subst, _∙_}
+use mathlib.Core.List.{List}
+use mathlib.Core.Bool.{true, and-eq-true-iff}
+use Prim.Native.Nat.{ℕ, zero, suc, _+_, _-_, _*_, _<_, _≤_}
+use native.Mathlib.Omega.{arith}
+use lib.Dec.{leb}
+use lib.ListN.{length}
+use borrow.Author.Tests.{leb-true, eqb-true}
+use Rattle.lexer.proofs.Law.Runs.{by-test}
+use Rattle.tree.specs.Tree.{Tree, pick}
+use Rattle.tree.specs.Slots.{root, lay, put, shapeOf, pickTag}
+use Rattle.tree.specs.Fits.{Within, Known}
+use Rattle.syntax.specs.Symbol.{symbolAt, is, dot, openSquare, closeSquare, isWord, isIndex, indexOf, memberOf}
+use Rattle.syntax.specs.Parser.{Result, part, refused, ask, expect, inText, picksFrom}
+use Rattle.syntax.specs.Inner.{Sound, Goes, Good, Agrees, PicksBy, memberPickOf, indexPickOf, pickingOf}
+use Rattle.syntax.specs.declared.symbol.Symbol.{Symbol}
+use Rattle.syntax.specs.declared.parse.Parsed.{Parsed}
+use Rattle.syntax.specs.declared.parse.Parsed.the-variants as parsed
+use Rattle.syntax.specs.declared.parse.Picking.{Picking}
+use Rattle.syntax.specs.declared.parse.Picking.the-variants as picking
+use Rattle.syntax.proofs.Law.Symbols.{Picked, picking-sound}
+use Rattle.syntax.proofs.Law.Steps.{Gives, asks-yes, asks-no, at-once}
+use Rattle.syntax.proofs.Law.Parts.{goes-on, stepped, ahead-wider, postfixed}
+
+-- what comes of a pick
+abbrev onPicking : Picking → (ℕ → Symbol → Result Symbol Tree) → Result Symbol Tree → Result Symbol Tree
+onPicking (picking.Pick i z) more none = more i z
+onPicking (picking.Bad y) more none = refused y
+onPicking picking.Nothing more none = none
+
+module _ (text : List ℕ) (g : ℕ) (e : Tree) (x : Symbol) where
+  -- the picks after one of the component i
+  abbrev more : ℕ → Symbol → Result Symbol Tree
+  more i = picksFrom text (inText text) g (pick (x .at) i e)
+
+  member-step : Gives (expect (inText text) isWord (λ y. more (memberOf text y))) (symbolAt text (x .end)) (onPicking (memberPickOf text x) more (part e x))
+  unfolding memberPickOf
+  member-step =
+      let y = symbolAt text (x .end) in
+      by-test (λ (p : Picking). Gives (expect (inText text) isWord (λ y. more (memberOf text y))) y (onPicking p more (part e x))) (isWord y)
+      (λ h. asks-yes _ _ _ _ h (λ q. absurd (omega (arith, leb-true (y .number) 34 (and-eq-true-iff (leb 28 (y .number)) (leb (y .number) 34) .0 h .1)))) at-once)
+      (λ h. asks-no _ _ _ _ h at-once)
+
+  index-step : Gives (expect (inText text) isIndex (λ y. expect (inText text) (is closeSquare) (λ z. more (indexOf y)))) (symbolAt text (x .end)) (onPicking (indexPickOf text x) more (part e x))
+  unfolding indexPickOf
+  index-step =
+      let y = symbolAt text (x .end) in
+      let z = symbolAt text (y .end) in
+      by-test (λ (p : Picking). Gives (expect (inText text) isIndex (λ y. expect (inText text) (is closeSquare) (λ z. more (indexOf y)))) y (onPicking p more (part e x))) (isIndex y)
+      (λ h. asks-yes _ _ _ _ h (λ q. absurd (omega (arith, leb-true (y .number) 25 (and-eq-true-iff (leb 22 (y .number)) (leb (y .number) 25) .0 h .1))))
+      (by-test (λ (p : Picking). Gives (expect (inText text) (is closeSquare) (λ z. more (indexOf y))) z (onPicking p more (part e x))) (is closeSquare z)
+      (λ i. asks-yes _ _ _ _ i (λ q. absurd (omega (arith, eqb-true (z .number) 19 i))) at-once)
+      (λ i. asks-no _ _ _ _ i at-once)))
+      (λ h. asks-no _ _ _ _ h at-once)
+
+  picks-step : Gives (picksFrom text (inText text) (suc g) e) x (onPicking (pickingOf text x) more (part e x))
+  unfolding picksFrom pickingOf
+  picks-step =
+      by-test (λ (p : Picking). Gives (picksFrom text (inText text) (suc g) e) x (onPicking p more (part e x))) (is dot x)
+      (λ h. asks-yes _ _ _ _ h (λ q. absurd (omega (arith, eqb-true (x .number) 21 h))) member-step)
+      (λ n. by-test (λ (p : Picking). Gives (picksFrom text (inText text) (suc g) e) x (onPicking p more (part e x))) (is openSquare x)
+      (λ h. asks-no _ _ _ _ n (asks-yes _ _ _ _ h (λ q. absurd (omega (arith, eqb-true (x .number) 18 h))) index-step))
+      (λ h. asks-no _ _ _ _ n (asks-no _ _ _ _ h at-once)))
+
+  pub by-pick : {p : Picking} → pickingOf text x ≡ p → picksFrom text (inText text) (suc g) e x ≡ onPicking p more (part e x)
+  by-pick i = subst (λ p. picksFrom text (inText text) (suc g) e x ≡ onPicking p more (part e x)) i (picks-step .gives)
+
+pub pick-sound : {text : List ℕ} {x : Symbol} {i : ℕ} {z : Symbol} → Sound text x → pickingOf text x ≡ picking.Pick i z → (x .at + 1 < z .at) × Sound text z × (i < 8)
+pick-sound {text} {x} s p = subst (Picked text x) p (picking-sound text x s)
+
+module _ {text w : List ℕ} {at : ℕ} (x : Symbol) (s : Goes text at x) where
+  pub picks-none : pickingOf text x ≡ picking.Nothing → PicksBy text w w at x (parsed.Tree at x)
+  picks-none p = record {
+    ahead = (omega arith, s .before, s .sound);
+    says = stepped (λ f. (lo : ℕ) (u : List ℕ) (e : Tree) → w ≡ lay u (shapeOf e) → at ≡ root (shapeOf e) → Within lo (x .at) (shapeOf e) → Known e →
+        Good shapeOf Known u w lo at x (picksFrom text (inText text) f e x)) (omega arith) (λ g l lo u e wrote rooted tidy fits.
+        record { tree = e; is = by-pick text g e x p; rooted = rooted; wrote = wrote; tidy = tidy; fits = fits });
+  }
+
+  pub picks-bad : {y : Symbol} → pickingOf text x ≡ picking.Bad y → PicksBy text w w at x (parsed.Bad y)
+  picks-bad {y} p = record {
+    ahead = tt;
+    says = stepped (λ f. (lo : ℕ) (u : List ℕ) (e : Tree) → w ≡ lay u (shapeOf e) → at ≡ root (shapeOf e) → Within lo (x .at) (shapeOf e) → Known e →
+        picksFrom text (inText text) f e x ≡ refused y) (omega arith) (λ g l lo u e wrote rooted tidy fits. by-pick text g e x p);
+  }
+
+  pub picks-goes : {i : ℕ} {z : Symbol} {u v : List ℕ} {r : Parsed} → pickingOf text x ≡ picking.Pick i z → u ≡ put w (x .at) (pickTag i) at → PicksBy text u v (x .at) z r → PicksBy text w v at x r
+  unfolding Known
+  picks-goes {i} {z} {u} {v} {r} p wrote t =
+      let a = pick-sound (s .sound) p in
+      record {
+        ahead = ahead-wider text at r (omega (arith, s .before)) (t .ahead);
+        says = stepped (λ f. (lo : ℕ) (u : List ℕ) (e : Tree) → w ≡ lay u (shapeOf e) → at ≡ root (shapeOf e) → Within lo (x .at) (shapeOf e) → Known e →
+            Agrees shapeOf Known u v lo r (picksFrom text (inText text) f e x)) (omega arith) (λ g l lo w₀ e wrote′ rooted tidy fits.
+            let inner : Good shapeOf Known w₀ w lo at x (part e x) = record { tree = e; is = refl; rooted = rooted; wrote = wrote′; tidy = tidy; fits = fits } in
+            let d = postfixed shapeOf Known (pick (x .at) i) (pickTag i) (λ a. refl) (λ b k. (a .2, k)) (omega arith) inner (a .0) wrote refl in
+            subst (λ a. Agrees shapeOf Known w₀ v lo r a) (sym (by-pick text g e x p)) (goes-on (picksFrom text (inText text)) t g (omega (arith, a .1 .order, a .1 .inside)) d));
+      }

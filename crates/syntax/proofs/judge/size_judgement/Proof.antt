@@ -1,0 +1,50 @@
+use borrow.Author.Needs.{needs}
+use Rattle.syntax.proofs.judge.size_judgement.Statement.{statement}
+use Rattle.syntax.proofs.judge.size_judgement.Tie as tie
+use Rattle.syntax.proofs.judge.size_judgement.Reads as reads
+use Rattle.syntax.proofs.judge.size_judgement.Lts as lts
+use Rattle.lexer.proofs.scan.scan.Reads as scan-reads
+use Rattle.syntax.proofs.judge.grammar_judgement.Reads as grammar-judgement-reads
+use mathlib.Core.Path.{sym, _∙_}
+use Rattle.syntax.proofs.Law.Whole.{size-over, tokens-bad, tokens-fine}
+
+returns : tie.Need-returns
+returns c =
+    size-over _ (c .if1 .taken)
+
+scan-requires : tie.Need-scan-requires
+scan-requires c κs = search needs
+
+enum-told : tie.Need-enum-told
+enum-told c = search needs
+
+grammar-judgement-requires : tie.Need-grammar-judgement-requires
+grammar-judgement-requires c κs =
+    (c .before .before .before .before .if1 .left, c .before .before .before .before .before .before .before .pre)
+
+enum-known-number : tie.Need-enum-known-number
+enum-known-number c = search needs
+
+same-length : tie.Need-same-length
+same-length c = search needs
+
+returns-2 : tie.Need-returns-2
+returns-2 c =
+    tokens-fine _ (c .before .before .before .before .before .before .before .if1 .left) (sym (c .before .before .before .before .before .before .scan .ensures) ∙ c .before .before .before .before .enum-told .given .1) (c .before .before .grammar-judgement .ensures)
+
+returns-3 : tie.Need-returns-3
+returns-3 c =
+    tokens-bad _ (c .before .before .before .before .if1 .left) (sym (c .before .before .before .scan .ensures) ∙ c .before .number .given .1)
+
+pub size-judgement-spec : {M : Type 1} → statement M
+size-judgement-spec =
+    tie.close
+    (tie.spec
+    returns
+    scan-requires
+    enum-told
+    grammar-judgement-requires
+    enum-known-number
+    same-length
+    returns-2
+    returns-3)

@@ -1,0 +1,44 @@
+use borrow.Author.Needs.{needs}
+use Rattle.syntax.proofs.names.earlier.Statement.{statement}
+use Rattle.syntax.proofs.names.earlier.Tie as tie
+use borrow.Author.Tests.{lt-ltb, le-ltb}
+
+enum-known-a : tie.Need-enum-known-a
+enum-known-a c = search needs
+
+enum-known-b : tie.Need-enum-known-b
+enum-known-b c = search needs
+
+enum-told : tie.Need-enum-told
+enum-told c = search needs
+
+enum-told-2 : tie.Need-enum-told-2
+enum-told-2 c = search needs
+
+returns : tie.Need-returns
+returns c =
+    rw (c .before .before .before .before .before .a .given .1, c .before .before .b .given .1, lt-ltb _ _ (c .if1 .taken))
+
+returns-2 : tie.Need-returns-2
+returns-2 c =
+    rw (c .before .before .before .before .before .a .given .1, c .before .before .b .given .1, le-ltb _ _ (c .if1 .left))
+
+returns-3 : tie.Need-returns-3
+returns-3 c =
+    rw (c .before .before .before .a .given .1, c .enum-told .given .1)
+
+returns-4 : tie.Need-returns-4
+returns-4 c = search needs
+
+pub earlier-spec : {M : Type 1} → statement M
+earlier-spec =
+    tie.close
+    (tie.spec
+    enum-known-a
+    enum-known-b
+    enum-told
+    enum-told-2
+    returns
+    returns-2
+    returns-3
+    returns-4)

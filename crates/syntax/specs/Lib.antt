@@ -1,0 +1,6 @@
+pub mod Symbol
+pub mod Parser
+pub mod Height
+pub mod Names
+pub mod Judge
+pub mod Inner
