@@ -992,6 +992,8 @@ def name_texts(source):
     texts += [b'%s + %s' % pair for pair in itertools.product(some, some)] + [b'%s ? %s : %s' % row for row in itertools.product(some[:5], repeat=3)]
     texts += [b'foo(%s)' % part for part in some] + [b'(%s).q' % part for part in some] + [b'color(%s)' % part for part in some] + [b"color('red', %s)" % part for part in some]
     texts += [b'min(%s, %s)' % pair for pair in itertools.product(some, some)] + [b'-%s' % part for part in some] + [b'%s.q' % part for part in some] + [b'%s[0].q.x' % part for part in some]
+    # far behind: more commas before the name than a tree may be high
+    texts += [b'min(' + b'1,' * n + part + b')' for n in (63, 64, 65, 100, 300) for part in some]
     return texts + color_texts(source)
 
 

@@ -110,7 +110,37 @@ fn judgement_agrees(name: &[u8], head: &[u8], text: &[u8], tree: &[u8], slots: &
     }
 }
 
+// Whether a text is refused for its slots.
+fn is_short(text: &[u8], slots: &mut [u16]) -> bool {
+    match judge(text, slots) {
+        Judgement::Fine { root: _ } => false,
+        Judgement::Refused { number, place } => (number == 10) & (place == 0),
+    }
+}
+
+// With a slot too few a text is refused, and the slots are left alone.
+fn short_agrees(name: &[u8], head: &[u8], text: &[u8], slots: &mut [u16]) -> bool {
+    if is_short(text, slots) & hold(slots, 0, slots.len(), UNUSED) {
+        return true;
+    }
+    report::text_difference(name, head, text);
+    report::text(b"too few slots are not refused\n");
+    false
+}
+
+// The empty text needs no slot.
+fn room_agrees(name: &[u8], head: &[u8], text: &[u8], slots: &mut [u16]) -> bool {
+    let n = text.len();
+    if 0 < n {
+        if n <= slots.len() {
+            return short_agrees(name, head, text, &mut slots[..n - 1]);
+        }
+    }
+    true
+}
+
 pub(crate) fn agrees(name: &[u8], head: &[u8], text: &[u8], tree: &[u8]) -> bool {
     let mut slots = [UNUSED; SLOTS];
-    judgement_agrees(name, head, text, tree, &mut slots)
+    room_agrees(name, head, text, &mut slots)
+        & judgement_agrees(name, head, text, tree, &mut slots)
 }

@@ -1,10 +1,10 @@
 -- A tree that was written is read back, and the slots outside its places are as they were.
 use mathlib.Core.Path.{_≡_, refl, ap, subst, _∙_}
-use mathlib.Core.List.{List}
+use mathlib.Core.List.{List, _++_}
 use mathlib.Core.Logic.{_⊎_, inl, inr}
 use Prim.Native.Nat.{ℕ, zero, suc, _+_, _-_, _/_, _%_, _<_, _≤_}
 use native.Mathlib.Omega.{arith}
-use lib.ListN.{length, getD, set, length-set}
+use lib.ListN.{length, getD, set, length-set, List·getD-append}
 use lib.Seq.{getD-set-same, getD-set-other}
 use Rattle.tree.specs.Tree.{Tree, literal, variable, unary, binary, conditional, bare, call, pick, place, Arguments, last, next}
 use Rattle.tree.specs.Slots.{
@@ -117,6 +117,10 @@ holds-same {lo = lo} (after p tag e) t same h = (
 
 same-all : {v u : List ℕ} {lo hi : ℕ} → ((i : ℕ) → lo ≤ i → i < hi → getD u i 0 ≡ getD v i 0) → Same v u lo hi
 same-all s = record { slot = λ i l h. s i l (omega arith); tag = λ i l h m. ap (λ (n : ℕ). n / 1024) (s i l h) }
+
+-- with more slots behind them they hold it still
+pub holds-more : (v u : List ℕ) (lo hi : ℕ) (s : Shape) → Within lo hi s → hi ≤ length v → Holds v s → Holds (v ++ u) s
+holds-more v u lo hi s t room h = holds-same s t (same-all (λ i a b. List·getD-append v u 0 i (omega arith))) h
 
 -- a node with parts on both sides leaves the left one, whose last slot lends its link
 same-left : (v b : List ℕ) (lo p tag left right : ℕ) → ((i : ℕ) → i < p → getD b i 0 ≡ getD v i 0) → Same v (join b p tag left right) lo p
