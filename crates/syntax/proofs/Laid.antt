@@ -52,7 +52,7 @@ use Rattle.syntax.specs.Parser.{
 use Rattle.syntax.specs.Height.{heightOf}
 use Rattle.syntax.specs.Names.{unknownIn, leftmostOf}
 use Rattle.syntax.specs.Judge.{Judged, fine, refusal, byNames, byHeight, byGrammar, byTokens, bySize, judgedOf, slotsAfter}
-use Rattle.syntax.specs.Inner.{Sound, branchesShape, KnownBranches}
+use Rattle.syntax.specs.Inner.{Sound, branchesShape}
 use Rattle.syntax.specs.declared.symbol.Symbol.{Symbol}
 use Rattle.syntax.specs.declared.names.Leftmost.{Leftmost}
 use Rattle.syntax.specs.declared.names.Leftmost.the-variants.{At, Nothing}
@@ -61,6 +61,9 @@ use Rattle.syntax.proofs.Law.Levels.{row-operator, prefix-operator}
 use Rattle.syntax.proofs.Law.Heights.{pruned-low}
 
 -- ---- what fits
+
+abbrev KnownBranches : Branches → Type 0
+KnownBranches (branches q a b) = Known a × Known b
 
 -- s lies in the text, at lo or after it
 record From (text : List ℕ) (lo : ℕ) (s : Symbol) : Type 0 where

@@ -10,7 +10,6 @@ use Rattle.tree.specs.Slots.{Shape, root, lay, shapeOf, shapesOf, between, oper
 use Rattle.tree.specs.Node.{argumentAt}
 use Rattle.tree.specs.declared.node.Argument.{Argument}
 use Rattle.tree.specs.declared.node.Argument.the-variants.{Last, Next}
-use Rattle.tree.specs.Fits.{Within, Known, KnownAll}
 use Rattle.syntax.specs.Symbol.{dot, openSquare, closeSquare, closeRound, is, isWord, isIndex, indexOf, memberOf, symbolAt}
 use Rattle.syntax.specs.Parser.{Result, part, refused, Branches, branches, choiceFrom, branchesFrom, levelFrom, tailFrom, unaryFrom, postfixFrom, picksFrom, primaryFrom, callFrom, argumentsFrom, inText, parseOf}
 use Rattle.syntax.specs.Height.{heightOf}
@@ -49,17 +48,15 @@ pub record Goes (text : List ℕ) (at : ℕ) (x : Symbol) : Type 0 where
 -- ---- what a level answers, by what the definition gives
 
 -- the answer is the definition's part: its root, the symbol behind it, and its nodes written
-pub record Good {A : Type 0} (shape : A → Shape) (known : A → Type 0) (w v : List ℕ) (lo at : ℕ) (next : Symbol) (a : Result Symbol A) : Type 0 where
+pub record Good {A : Type 0} (shape : A → Shape) (w v : List ℕ) (at : ℕ) (next : Symbol) (a : Result Symbol A) : Type 0 where
   pub tree : A
   pub is : a ≡ part tree next
   pub rooted : at ≡ root (shape tree)
   pub wrote : v ≡ lay w (shape tree)
-  pub tidy : Within lo (next .at) (shape tree)
-  pub fits : known tree
 
-abbrev pub Agrees : {A : Type 0} → (A → Shape) → (A → Type 0) → List ℕ → List ℕ → ℕ → Parsed → Result Symbol A → Type 0
-Agrees shape known w v lo (parsed.Tree at next) a = Good shape known w v lo at next a
-Agrees shape known w v lo (parsed.Bad y) a = a ≡ refused y
+abbrev pub Agrees : {A : Type 0} → (A → Shape) → List ℕ → List ℕ → Parsed → Result Symbol A → Type 0
+Agrees shape w v (parsed.Tree at next) a = Good shape w v at next a
+Agrees shape w v (parsed.Bad y) a = a ≡ refused y
 
 -- the root lies between where the part began and the symbol behind it
 abbrev pub Ahead : List ℕ → ℕ → Parsed → Type 0
@@ -67,15 +64,14 @@ Ahead text lo (parsed.Tree at next) = (lo ≤ at) × (at < next .at) × Sound te
 Ahead text lo (parsed.Bad y) = Unit {0}
 
 -- r, with the slots v after w, is what the definition gives with steps enough
-pub record ParsedBy {A : Type 0} (shape : A → Shape) (known : A → Type 0) (spec : ℕ → Result Symbol A) (fuel : ℕ) (text w v : List ℕ) (lo : ℕ) (r : Parsed) : Type 0 where
+pub record ParsedBy {A : Type 0} (shape : A → Shape) (spec : ℕ → Result Symbol A) (fuel : ℕ) (text w v : List ℕ) (lo : ℕ) (r : Parsed) : Type 0 where
   pub ahead : Ahead text lo r
-  pub says : (f : ℕ) → fuel ≤ f → Agrees shape known w v lo r (spec f)
+  pub says : (f : ℕ) → fuel ≤ f → Agrees shape w v r (spec f)
 
 -- the same for what goes on from a part that has been written
-pub record TailedBy (spec : ℕ → Tree → Result Symbol Tree) (fuel : ℕ) (text w v : List ℕ) (at : ℕ) (x : Symbol) (r : Parsed) : Type 0 where
+pub record TailedBy (spec : ℕ → Tree → Result Symbol Tree) (fuel : ℕ) (text w v : List ℕ) (at : ℕ) (r : Parsed) : Type 0 where
   pub ahead : Ahead text at r
-  pub says : (f : ℕ) → fuel ≤ f → (lo : ℕ) (u : List ℕ) (e : Tree) → w ≡ lay u (shapeOf e) → at ≡ root (shapeOf e) → Within lo (x .at) (shapeOf e) → Known e →
-      Agrees shapeOf Known u v lo r (spec f e)
+  pub says : (f : ℕ) → fuel ≤ f → (u : List ℕ) (e : Tree) → w ≡ lay u (shapeOf e) → at ≡ root (shapeOf e) → Agrees shapeOf u v r (spec f e)
 
 -- ---- each level, and the steps that it takes
 
@@ -85,43 +81,39 @@ steps c text x = (length text - x .at) * 32 + c
 abbrev pub branchesShape : Branches → Shape
 branchesShape (branches q a b) = between q (operatorTag 1) (shapeOf a) (shapeOf b)
 
-abbrev pub KnownBranches : Branches → Type 0
-KnownBranches (branches q a b) = Known a × Known b
-
 abbrev pub ChoiceBy : List ℕ → List ℕ → List ℕ → Symbol → Parsed → Type 0
-ChoiceBy text w v x r = ParsedBy shapeOf Known (λ f. choiceFrom text (inText text) f x) (steps 12 text x) text w v (x .at) r
+ChoiceBy text w v x r = ParsedBy shapeOf (λ f. choiceFrom text (inText text) f x) (steps 12 text x) text w v (x .at) r
 
 abbrev pub BranchesBy : List ℕ → List ℕ → List ℕ → Symbol → Parsed → Type 0
-BranchesBy text w v x r = ParsedBy branchesShape KnownBranches (λ f. branchesFrom text (inText text) f x) (steps 13 text x) text w v (x .at) r
+BranchesBy text w v x r = ParsedBy branchesShape (λ f. branchesFrom text (inText text) f x) (steps 13 text x) text w v (x .at) r
 
 abbrev pub LevelBy : ℕ → List ℕ → List ℕ → List ℕ → Symbol → Parsed → Type 0
-LevelBy k text w v x r = ParsedBy shapeOf Known (λ f. levelFrom text (inText text) f k x) (steps (5 + k) text x) text w v (x .at) r
+LevelBy k text w v x r = ParsedBy shapeOf (λ f. levelFrom text (inText text) f k x) (steps (5 + k) text x) text w v (x .at) r
 
 abbrev pub TailBy : ℕ → List ℕ → List ℕ → List ℕ → ℕ → Symbol → Parsed → Type 0
-TailBy k text w v at x r = TailedBy (λ f e. tailFrom text (inText text) f k e x) (steps 1 text x) text w v at x r
+TailBy k text w v at x r = TailedBy (λ f e. tailFrom text (inText text) f k e x) (steps 1 text x) text w v at r
 
 abbrev pub UnaryBy : List ℕ → List ℕ → List ℕ → Symbol → Parsed → Type 0
-UnaryBy text w v x r = ParsedBy shapeOf Known (λ f. unaryFrom text (inText text) f x) (steps 4 text x) text w v (x .at) r
+UnaryBy text w v x r = ParsedBy shapeOf (λ f. unaryFrom text (inText text) f x) (steps 4 text x) text w v (x .at) r
 
 abbrev pub PostfixBy : List ℕ → List ℕ → List ℕ → Symbol → Parsed → Type 0
-PostfixBy text w v x r = ParsedBy shapeOf Known (λ f. postfixFrom text (inText text) f x) (steps 3 text x) text w v (x .at) r
+PostfixBy text w v x r = ParsedBy shapeOf (λ f. postfixFrom text (inText text) f x) (steps 3 text x) text w v (x .at) r
 
 abbrev pub PicksBy : List ℕ → List ℕ → List ℕ → ℕ → Symbol → Parsed → Type 0
-PicksBy text w v at x r = TailedBy (λ f e. picksFrom text (inText text) f e x) (steps 1 text x) text w v at x r
+PicksBy text w v at x r = TailedBy (λ f e. picksFrom text (inText text) f e x) (steps 1 text x) text w v at r
 
 abbrev pub PrimaryBy : List ℕ → List ℕ → List ℕ → Symbol → Parsed → Type 0
-PrimaryBy text w v x r = ParsedBy shapeOf Known (λ f. primaryFrom text (inText text) f x) (steps 2 text x) text w v (x .at) r
+PrimaryBy text w v x r = ParsedBy shapeOf (λ f. primaryFrom text (inText text) f x) (steps 2 text x) text w v (x .at) r
 
 abbrev pub CallBy : List ℕ → List ℕ → List ℕ → Symbol → Parsed → Type 0
-CallBy text w v x r = ParsedBy shapeOf Known (λ f. callFrom text (inText text) f x (symbolAt text (x .end))) (steps 1 text x) text w v (x .at) r
+CallBy text w v x r = ParsedBy shapeOf (λ f. callFrom text (inText text) f x (symbolAt text (x .end))) (steps 1 text x) text w v (x .at) r
 
 abbrev pub ArgumentsBy : List ℕ → List ℕ → List ℕ → Symbol → Parsed → Type 0
-ArgumentsBy text w v x r = ParsedBy shapesOf KnownAll (λ f. argumentsFrom text (inText text) f x) (steps 13 text x) text w v (x .at) r
+ArgumentsBy text w v x r = ParsedBy shapesOf (λ f. argumentsFrom text (inText text) f x) (steps 13 text x) text w v (x .at) r
 
 -- the whole text
 pub record WholeBy (text w v : List ℕ) (r : Parsed) : Type 0 where
-  pub ahead : Ahead text 0 r
-  pub says : Agrees shapeOf Known w v 0 r (parseOf text)
+  pub says : Agrees shapeOf w v r (parseOf text)
 
 -- ---- what calls no level
 

@@ -1,6 +1,6 @@
 -- What the grammar sees of a token: page 01, "Tokens and grammar". A symbol has a number, the place of its token and its end. Punctuators have their own numbers (`?` is 0, `.` is 21);
 -- then come the indices `0` to `3`, any other number, a string, the literal words, any other word, and a variable. Behind the last token stands the symbol 36, where the text ends.
-use mathlib.Core.Bool.{Bool, true, false, cond, _&&_, _||_}
+use mathlib.Core.Bool.{Bool, cond, _&&_, _||_}
 use mathlib.Core.List.{List}
 use Prim.Native.Nat.{ℕ, _+_, _-_}
 use lib.Dec.{eqb, ltb, leb}

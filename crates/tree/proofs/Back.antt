@@ -4,18 +4,15 @@ use mathlib.Core.List.{List, _++_}
 use mathlib.Core.Logic.{_⊎_, inl, inr}
 use Prim.Native.Nat.{ℕ, zero, suc, _+_, _-_, _/_, _%_, _<_, _≤_}
 use native.Mathlib.Omega.{arith}
-use lib.ListN.{length, getD, set, length-set, List·getD-append}
+use lib.ListN.{length, getD, length-set, List·getD-append}
 use lib.Seq.{getD-set-same, getD-set-other}
 use Rattle.tree.specs.Tree.{Tree, literal, variable, unary, binary, conditional, bare, call, pick, place, Arguments, last, next}
 use Rattle.tree.specs.Slots.{
   word,
   tagAt,
-  linkAt,
   leftAt,
   put,
   join,
-  operatorTag,
-  functionTag,
   commaTag,
   Shape,
   leaf,
@@ -25,12 +22,11 @@ use Rattle.tree.specs.Slots.{
   after,
   root,
   lay,
-  branches,
   shapeOf,
   shapesOf,
   store,
 }
-use Rattle.tree.specs.Node.{nodeAt, argumentAt, argumentsAt, grown, mostCommas, treeAt}
+use Rattle.tree.specs.Node.{nodeAt, argumentsAt, grown, mostCommas, treeAt}
 use Rattle.tree.specs.Fits.{Within, Known, KnownAll, allowed, pruned, prunedAll}
 use Rattle.tree.proofs.Law.Places.{root-within, root-shape, length-lay}
 use Rattle.tree.proofs.Law.Words.{tag-word, link-word, link-tag, join-other}

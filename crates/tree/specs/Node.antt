@@ -1,5 +1,5 @@
 -- Reading a tree back from slots: a node by its slot, and from nodes the tree, as deep as an allowance goes.
-use mathlib.Core.Bool.{Bool, true, false, cond}
+use mathlib.Core.Bool.{cond}
 use mathlib.Core.List.{List}
 use Prim.Native.Nat.{ℕ, zero, suc, _-_}
 use lib.Dec.{eqb, ltb}

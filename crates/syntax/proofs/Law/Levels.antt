@@ -1,18 +1,15 @@
 -- The levels of the grammar, path by path: what the callees gave, and the tests that were passed, give what the caller says.
-use mathlib.Core.Path.{_≡_, refl, ap, sym, subst, _∙_}
+use mathlib.Core.Path.{_≡_, refl, ap, sym, subst}
 use mathlib.Core.List.{List}
 use mathlib.Core.Bool.{Bool, true, false, cond, _&&_, _||_, and-eq-true-iff, false≢true}
-use Prim.Native.Nat.{ℕ, zero, suc, _+_, _-_, _*_, _<_, _≤_}
+use Prim.Native.Nat.{ℕ, zero, suc, _+_, _<_, _≤_}
 use native.Mathlib.Omega.{arith}
 use lib.Dec.{eqb, ltb, leb}
 use lib.ListN.{length}
 use borrow.Author.Tests.{eq-eqb, ne-eqb, leb-true, eqb-true, ltb-true, ltb-false, le-leb, lt-leb}
-use Rattle.tree.specs.Tree.{Tree, literal, variable, unary, binary, conditional, bare, call, pick, Arguments, last, next}
-use Rattle.tree.specs.Slots.{Shape, between, root, lay, put, join, shapeOf, shapesOf, operatorTag, functionTag, variableTag, commaTag, pickTag}
-use Rattle.tree.specs.Fits.{Within, Known, KnownAll}
-use Rattle.tree.proofs.Law.Places.{within-wider}
-use Rattle.syntax.specs.Symbol.{symbolAt, is, question, colon, comma, openRound, closeRound, word, end, isLiteral, formOf, isPrefix, rowOf, inRow, functionOf}
-use Rattle.syntax.specs.Symbol as symbol
+use Rattle.tree.specs.Tree.{Tree, literal, variable, unary, binary, bare, call, last, next}
+use Rattle.tree.specs.Slots.{Shape, between, root, lay, put, join, shapeOf, shapesOf, operatorTag, functionTag, variableTag, commaTag}
+use Rattle.syntax.specs.Symbol.{symbolAt, is, question, colon, comma, closeRound, end, isLiteral, formOf, isPrefix, rowOf, functionOf}
 use Rattle.syntax.specs.Parser.{
   Result,
   part,
@@ -43,10 +40,8 @@ use Rattle.syntax.specs.Inner.{
   Agrees,
   Ahead,
   ParsedBy,
-  TailedBy,
   steps,
   branchesShape,
-  KnownBranches,
   ChoiceBy,
   BranchesBy,
   LevelBy,
@@ -62,24 +57,24 @@ use Rattle.syntax.specs.Inner.{
 use Rattle.syntax.specs.declared.symbol.Symbol.{Symbol}
 use Rattle.syntax.specs.declared.parse.Parsed.{Parsed}
 use Rattle.syntax.specs.declared.parse.Parsed.the-variants as parsed
-use Rattle.syntax.proofs.Law.Symbols.{sound-at, later-at, function-known}
+use Rattle.syntax.proofs.Law.Symbols.{sound-at, later-at}
 use Rattle.syntax.proofs.Law.Steps.{Gives, given, then-part, then-bad, asks-yes, asks-no, after-that, at-once}
 use Rattle.syntax.proofs.Law.Parts.{ahead-tree, says-tree, says-bad, goes-on, stepped, ahead-wider, same, prefixed, paired}
 
 -- ---- an answer, by a step at a time
 
-module _ {A : Type 0} {shape : A → Shape} {known : A → Type 0} {text w v : List ℕ} {lo : ℕ} (m : ℕ → Symbol → Result Symbol A) (x : Symbol) (fuel : ℕ) where
-  refuses : {y : Symbol} → 0 < fuel → ((g : ℕ) → fuel ≤ suc g → Gives (m (suc g)) x (refused y)) → ParsedBy shape known (λ f. m f x) fuel text w v lo (parsed.Bad y)
+module _ {A : Type 0} {shape : A → Shape} {text w v : List ℕ} {lo : ℕ} (m : ℕ → Symbol → Result Symbol A) (x : Symbol) (fuel : ℕ) where
+  refuses : {y : Symbol} → 0 < fuel → ((g : ℕ) → fuel ≤ suc g → Gives (m (suc g)) x (refused y)) → ParsedBy shape (λ f. m f x) fuel text w v lo (parsed.Bad y)
   refuses {y} some h = record { ahead = tt; says = stepped (λ f. m f x ≡ refused y) some (λ g l. h g l .gives) }
 
-  builds : {at : ℕ} {next : Symbol} → 0 < fuel → Ahead text lo (parsed.Tree at next) → ((g : ℕ) → fuel ≤ suc g → Good shape known w v lo at next (m (suc g) x)) →
-      ParsedBy shape known (λ f. m f x) fuel text w v lo (parsed.Tree at next)
-  builds {at} {next} some a h = record { ahead = a; says = stepped (λ f. Good shape known w v lo at next (m f x)) some h }
+  builds : {at : ℕ} {next : Symbol} → 0 < fuel → Ahead text lo (parsed.Tree at next) → ((g : ℕ) → fuel ≤ suc g → Good shape w v at next (m (suc g) x)) →
+      ParsedBy shape (λ f. m f x) fuel text w v lo (parsed.Tree at next)
+  builds {at} {next} some a h = record { ahead = a; says = stepped (λ f. Good shape w v at next (m f x)) some h }
 
 -- ---- two parts with a symbol between them: conditionals, branches, arguments
 
 -- A level that reads a first part, and if the symbol after it is the right one, a second part and a node between the two. It takes c steps, and its parts c₁ and c₂.
-pub record Pair {A B C : Type 0} (shapeA : A → Shape) (knownA : A → Type 0) (shapeB : B → Shape) (knownB : B → Type 0) (shapeC : C → Shape) (knownC : C → Type 0) (text : List ℕ) : Type 0 where
+pub record Pair {A B C : Type 0} (shapeA : A → Shape) (shapeB : B → Shape) (shapeC : C → Shape) (text : List ℕ) : Type 0 where
   pub first : ℕ → Symbol → Result Symbol A
   pub second : ℕ → Symbol → Result Symbol B
   pub whole : ℕ → Symbol → Result Symbol C
@@ -92,29 +87,27 @@ pub record Pair {A B C : Type 0} (shapeA : A → Shape) (knownA : A → Type 0) 
   pub c : ℕ
   step : (g : ℕ) → whole (suc g) ≡ andThen (first g) (λ a. ask (inText text) (is mark) (λ y. andThen (second g) (λ b. part (node (y .at) a b))) (none a))
   shaped : (p : ℕ) (a : A) (b : B) → shapeC (node p a b) ≡ between p tag (shapeA a) (shapeB b)
-  known : (p : ℕ) (a : A) (b : B) → knownA a → knownB b → knownC (node p a b)
   marked : mark < 36
-  tagged : tag < 64
   later₁ : c₁ < c
   later₂ : c₂ < c + 32
 
-module _ {A B C : Type 0} {shapeA : A → Shape} {knownA : A → Type 0} {shapeB : B → Shape} {knownB : B → Type 0} {shapeC : C → Shape} {knownC : C → Type 0} {text : List ℕ}
-    (p : Pair shapeA knownA shapeB knownB shapeC knownC text) {w v : List ℕ} (x : Symbol) {r : Parsed}
-    (h : ParsedBy shapeA knownA (λ f. p .first f x) (steps (p .c₁) text x) text w v (x .at) r) where
+module _ {A B C : Type 0} {shapeA : A → Shape} {shapeB : B → Shape} {shapeC : C → Shape} {text : List ℕ}
+    (p : Pair shapeA shapeB shapeC text) {w v : List ℕ} (x : Symbol) {r : Parsed}
+    (h : ParsedBy shapeA (λ f. p .first f x) (steps (p .c₁) text x) text w v (x .at) r) where
   by-step : {g : ℕ} {a : Result Symbol C} →
       Gives (andThen (p .first g) (λ a. ask (inText text) (is (p .mark)) (λ y. andThen (p .second g) (λ b. part (p .node (y .at) a b))) (p .none a))) x a → Gives (p .whole (suc g)) x a
   by-step {g} {a} i = subst (λ m. Gives m x a) (sym (p .step g)) i
 
-  pub first-bad : {y : Symbol} → r ≡ parsed.Bad y → ParsedBy shapeC knownC (λ f. p .whole f x) (steps (p .c) text x) text w v (x .at) (parsed.Bad y)
+  pub first-bad : {y : Symbol} → r ≡ parsed.Bad y → ParsedBy shapeC (λ f. p .whole f x) (steps (p .c) text x) text w v (x .at) (parsed.Bad y)
   first-bad e = let l = p .later₁ in refuses (p .whole) x _ (omega arith) (λ g m. by-step (then-bad _ (given (says-bad h e g (omega arith)))))
 
   module _ {at : ℕ} {y : Symbol} (e : r ≡ parsed.Tree at y) where
     -- with another symbol after it, the first part goes on as it may
-    pub alone : (y .number ≡ p .mark → ⊥) → (g : ℕ) → steps (p .c) text x ≤ suc g → (d : Good shapeA knownA w v (x .at) at y (p .first g x)) → Gives (p .whole (suc g)) x (p .none (d .tree) y)
+    pub alone : (y .number ≡ p .mark → ⊥) → (g : ℕ) → steps (p .c) text x ≤ suc g → (d : Good shapeA w v at y (p .first g x)) → Gives (p .whole (suc g)) x (p .none (d .tree) y)
     alone q g l d = by-step (then-part _ (given (d .is)) (asks-no _ _ _ _ (ne-eqb (y .number) (p .mark) q) at-once))
 
     module _ (q : y .number ≡ p .mark) {z : Symbol} (f : Follows text y z) {u : List ℕ} {r′ : Parsed}
-        (i : ParsedBy shapeB knownB (λ f. p .second f z) (steps (p .c₂) text z) text v u (z .at) r′) where
+        (i : ParsedBy shapeB (λ f. p .second f z) (steps (p .c₂) text z) text v u (z .at) r′) where
       -- there are steps enough for the second part
       enough : (g : ℕ) → steps (p .c) text x ≤ suc g → steps (p .c₂) text z ≤ g
       enough g l =
@@ -122,13 +115,13 @@ module _ {A B C : Type 0} {shapeA : A → Shape} {knownA : A → Type 0} {shapeB
           let m = a .2 .moves (omega (arith, p .marked)) in
           omega (arith, p .later₂, f .later, f .sound .order, f .sound .inside)
 
-      pub second-bad : {b : Symbol} → r′ ≡ parsed.Bad b → ParsedBy shapeC knownC (λ f. p .whole f x) (steps (p .c) text x) text w u (x .at) (parsed.Bad b)
+      pub second-bad : {b : Symbol} → r′ ≡ parsed.Bad b → ParsedBy shapeC (λ f. p .whole f x) (steps (p .c) text x) text w u (x .at) (parsed.Bad b)
       second-bad e′ = refuses (p .whole) x _ (omega (arith, p .later₁)) (λ g l.
           by-step (then-part _ (given (says-tree h e g (omega (arith, p .later₁)) .is)) (asks-yes _ _ _ _ (eq-eqb (y .number) (p .mark) q) (omega (arith, p .marked))
           (then-bad _ (after-that f (given (says-bad i e′ g (enough g l))))))))
 
       pub both : {at′ : ℕ} {y′ : Symbol} {s : List ℕ} → r′ ≡ parsed.Tree at′ y′ → s ≡ join u (y .at) (p .tag) at at′ →
-          ParsedBy shapeC knownC (λ f. p .whole f x) (steps (p .c) text x) text w s (x .at) (parsed.Tree (y .at) y′)
+          ParsedBy shapeC (λ f. p .whole f x) (steps (p .c) text x) text w s (x .at) (parsed.Tree (y .at) y′)
       both e′ wrote =
           let a = ahead-tree h e in
           let b = ahead-tree i e′ in
@@ -136,7 +129,7 @@ module _ {A B C : Type 0} {shapeA : A → Shape} {knownA : A → Type 0} {shapeB
           builds (p .whole) x _ (omega (arith, p .later₁)) (omega (arith, a), omega (arith, b, f .later), b .2) (λ g l.
           let d = says-tree h e g (omega (arith, p .later₁)) in
           let k = says-tree i e′ g (enough g l) in
-          paired shapeC knownC (p .node (y .at)) (p .tag) (p .shaped (y .at)) (p .known (y .at)) (p .tagged) d k (omega (arith, f .later)) wrote
+          paired shapeC (p .node (y .at)) (y .at) (p .tag) (p .shaped (y .at)) d k wrote
           (by-step (then-part _ (given (d .is)) (asks-yes _ _ _ _ (eq-eqb (y .number) (p .mark) q) (omega (arith, p .marked))
           (then-part _ (after-that f (given (k .is))) at-once))) .gives))
 
@@ -144,16 +137,12 @@ module _ (text : List ℕ) where
   pub chosen-shape : (p : ℕ) (c : Tree) (b : Branches) → shapeOf (chosen p c b) ≡ between p (operatorTag 0) (shapeOf c) (branchesShape b)
   chosen-shape p c (branches q a b) = refl
 
-  pub chosen-known : (p : ℕ) (c : Tree) (b : Branches) → Known c → KnownBranches b → Known (chosen p c b)
-  unfolding Known
-  chosen-known p c (branches q a b) k l = (k, l .0, l .1)
-
   pub choices-step : (g : ℕ) → choiceFrom text (inText text) (suc g) ≡
       andThen (levelFrom text (inText text) g 6) (λ a. ask (inText text) (is question) (λ y. andThen (branchesFrom text (inText text) g) (λ b. part (chosen (y .at) a b))) (part a))
   unfolding choiceFrom
   choices-step g = refl
 
-  abbrev pub choices : Pair shapeOf Known branchesShape KnownBranches shapeOf Known text
+  abbrev pub choices : Pair shapeOf branchesShape shapeOf text
   choices = record {
     first = λ f. levelFrom text (inText text) f 6;
     second = branchesFrom text (inText text);
@@ -167,9 +156,7 @@ module _ (text : List ℕ) where
     c = 12;
     step = choices-step;
     shaped = chosen-shape;
-    known = chosen-known;
     marked = omega arith;
-    tagged = omega arith;
     later₁ = omega arith;
     later₂ = omega arith;
   }
@@ -179,7 +166,7 @@ module _ (text : List ℕ) where
   unfolding choiceFrom
   pairs-step g = refl
 
-  abbrev pub pairs : Pair shapeOf Known shapeOf Known branchesShape KnownBranches text
+  abbrev pub pairs : Pair shapeOf shapeOf branchesShape text
   pairs = record {
     first = choiceFrom text (inText text);
     second = choiceFrom text (inText text);
@@ -193,9 +180,7 @@ module _ (text : List ℕ) where
     c = 13;
     step = pairs-step;
     shaped = λ p a b. refl;
-    known = λ p a b k l. (k, l);
     marked = omega arith;
-    tagged = omega arith;
     later₁ = omega arith;
     later₂ = omega arith;
   }
@@ -205,11 +190,7 @@ module _ (text : List ℕ) where
   unfolding choiceFrom
   lists-step g = refl
 
-  pub lists-known : (q : ℕ) (e : Tree) (xs : Arguments) → Known e → KnownAll xs → KnownAll (next e q xs)
-  unfolding KnownAll
-  lists-known q e xs k l = (k, l)
-
-  abbrev pub lists : Pair shapeOf Known shapesOf KnownAll shapesOf KnownAll text
+  abbrev pub lists : Pair shapeOf shapesOf shapesOf text
   lists = record {
     first = choiceFrom text (inText text);
     second = argumentsFrom text (inText text);
@@ -223,9 +204,7 @@ module _ (text : List ℕ) where
     c = 13;
     step = lists-step;
     shaped = λ q e xs. refl;
-    known = lists-known;
     marked = omega arith;
-    tagged = omega arith;
     later₁ = omega arith;
     later₂ = omega arith;
   }
@@ -235,7 +214,7 @@ module _ {text w v : List ℕ} (x : Symbol) {r : Parsed} {at : ℕ} {y : Symbol}
   pub choice-none : LevelBy 6 text w v x r → (y .number ≡ question → ⊥) → ChoiceBy text w v x (parsed.Tree at y)
   choice-none h q = builds (choiceFrom text (inText text)) x _ (omega arith) (ahead-tree h e) (λ g l.
       let d = says-tree h e g (omega arith) in
-      record { tree = d .tree; is = alone (choices text) x h e q g l d .gives; rooted = d .rooted; wrote = d .wrote; tidy = d .tidy; fits = d .fits })
+      record { tree = d .tree; is = alone (choices text) x h e q g l d .gives; rooted = d .rooted; wrote = d .wrote })
 
   -- a first branch without its `:` is refused at what follows
   pub branches-none : ChoiceBy text w v x r → (y .number ≡ colon → ⊥) → BranchesBy text w v x (parsed.Bad y)
@@ -243,10 +222,9 @@ module _ {text w v : List ℕ} (x : Symbol) {r : Parsed} {at : ℕ} {y : Symbol}
 
   -- an argument without a comma after it is the last
   pub arguments-last : ChoiceBy text w v x r → (y .number ≡ comma → ⊥) → ArgumentsBy text w v x (parsed.Tree at y)
-  unfolding KnownAll
   arguments-last h q = builds (argumentsFrom text (inText text)) x _ (omega arith) (ahead-tree h e) (λ g l.
       let d = says-tree h e g (omega arith) in
-      record { tree = last (d .tree); is = alone (lists text) x h e q g l d .gives; rooted = d .rooted; wrote = d .wrote; tidy = d .tidy; fits = d .fits })
+      record { tree = last (d .tree); is = alone (lists text) x h e q g l d .gives; rooted = d .rooted; wrote = d .wrote })
 
 -- ---- binary operators
 
@@ -267,8 +245,8 @@ module _ {text w v : List ℕ} (j : ℕ) (x : Symbol) {r : Parsed} (h : LevelBy 
       let a = ahead-tree h e in
       record {
         ahead = ahead-wider text (x .at) r′ (a .0) (t .ahead);
-        says = stepped (λ f. Agrees shapeOf Known w u (x .at) r′ (levelFrom text (inText text) f (suc j) x)) (omega arith) (λ g l.
-            goes-on (λ f. tailFrom text (inText text) f j) t g (omega (arith, a .2 .order, a .2 .inside)) (says-tree h e g (omega arith)));
+        says = stepped (λ f. Agrees shapeOf w u r′ (levelFrom text (inText text) f (suc j) x)) (omega arith) (λ g l.
+            goes-on (λ f. tailFrom text (inText text) f j) _ t g (omega (arith, a .2 .order, a .2 .inside)) (says-tree h e g (omega arith)));
       }
 
 module _ {text w v : List ℕ} (k j : ℕ) (x : Symbol) {r : Parsed} (e : k ≡ suc j) (h : LevelBy j text w v x r) where
@@ -310,9 +288,8 @@ module _ {text w : List ℕ} (k : ℕ) {at : ℕ} (x : Symbol) (s : Goes text at
   unfolding choiceFrom
   tail-ends q = record {
     ahead = (omega arith, s .before, s .sound);
-    says = stepped (λ f. (lo : ℕ) (u : List ℕ) (e : Tree) → w ≡ lay u (shapeOf e) → at ≡ root (shapeOf e) → Within lo (x .at) (shapeOf e) → Known e →
-        Good shapeOf Known u w lo at x (tailFrom text (inText text) f k e x)) (omega arith) (λ g l lo u e wrote rooted tidy fits.
-        record { tree = e; is = asks-no _ _ _ _ (ne-eqb (rowOf (x .number)) (suc k) q) at-once .gives; rooted = rooted; wrote = wrote; tidy = tidy; fits = fits });
+    says = stepped (λ f. (u : List ℕ) (e : Tree) → w ≡ lay u (shapeOf e) → at ≡ root (shapeOf e) → Good shapeOf u w at x (tailFrom text (inText text) f k e x)) (omega arith) (λ g l u e wrote rooted.
+        record { tree = e; is = asks-no _ _ _ _ (ne-eqb (rowOf (x .number)) (suc k) q) at-once .gives; rooted = rooted; wrote = wrote });
   }
 
   module _ (q : rowOf (x .number) ≡ suc k) {y : Symbol} (f : Follows text x y) {v : List ℕ} {r : Parsed} (small : k < 6) (h : LevelBy k text w v y r) where
@@ -323,30 +300,30 @@ module _ {text w : List ℕ} (k : ℕ) {at : ℕ} (x : Symbol) (s : Goes text at
         let m = s .sound .moves (omega arith) in
         record {
           ahead = tt;
-          says = stepped (λ f. (lo : ℕ) (u : List ℕ) (e : Tree) → w ≡ lay u (shapeOf e) → at ≡ root (shapeOf e) → Within lo (x .at) (shapeOf e) → Known e →
-              tailFrom text (inText text) f k e x ≡ refused b) (omega arith) (λ g l lo u e′ wrote rooted tidy fits.
+          says = stepped (λ f. (u : List ℕ) (e : Tree) → w ≡ lay u (shapeOf e) → at ≡ root (shapeOf e) →
+              tailFrom text (inText text) f k e x ≡ refused b) (omega arith) (λ g l u e′ wrote rooted.
               asks-yes _ _ _ _ (eq-eqb (rowOf (x .number)) (suc k) q) (omega arith) (then-bad _ (after-that f (given
               (says-bad h e g (omega (arith, f .later, f .sound .order, f .sound .inside)))))) .gives);
         }
 
     pub tail-goes : {at′ : ℕ} {z : Symbol} {u v′ : List ℕ} {r′ : Parsed} → r ≡ parsed.Tree at′ z → u ≡ join v (x .at) (operatorTag (x .number)) at at′ →
         TailBy k text u v′ (x .at) z r′ → TailBy k text w v′ at x r′
-    unfolding choiceFrom Known
+    unfolding choiceFrom
     tail-goes {at′} {z} {u} {v′} {r′} e wrote t =
         let o = row-operator (x .number) k q in
         let m = s .sound .moves (omega arith) in
         let a = ahead-tree h e in
         record {
           ahead = ahead-wider text at r′ (omega (arith, s .before)) (t .ahead);
-          says = stepped (λ f. (lo : ℕ) (u : List ℕ) (e : Tree) → w ≡ lay u (shapeOf e) → at ≡ root (shapeOf e) → Within lo (x .at) (shapeOf e) → Known e →
-              Agrees shapeOf Known u v′ lo r′ (tailFrom text (inText text) f k e x)) (omega arith) (λ g l lo w₀ e′ wrote′ rooted tidy fits.
-              let left : Good shapeOf Known w₀ w lo at x (part e′ x) = record { tree = e′; is = refl; rooted = rooted; wrote = wrote′; tidy = tidy; fits = fits } in
+          says = stepped (λ f. (u : List ℕ) (e : Tree) → w ≡ lay u (shapeOf e) → at ≡ root (shapeOf e) →
+              Agrees shapeOf u v′ r′ (tailFrom text (inText text) f k e x)) (omega arith) (λ g l w₀ e′ wrote′ rooted.
+              let left : Good shapeOf w₀ w at x (part e′ x) = record { tree = e′; is = refl; rooted = rooted; wrote = wrote′ } in
               let right = says-tree h e g (omega (arith, f .later, f .sound .order, f .sound .inside)) in
               let node : Tree → Tree → Tree = binary (x .at) (x .number) in
-              let d = paired shapeOf Known node (operatorTag (x .number)) (λ a b. refl) (λ a b k l. (o .0, o .1, k, l)) (omega arith) left right (omega (arith, f .later)) wrote refl in
+              let d = paired shapeOf node (x .at) (operatorTag (x .number)) (λ a b. refl) left right wrote refl in
               let step = asks-yes _ _ _ _ (eq-eqb (rowOf (x .number)) (suc k) q) (omega arith) (then-part _ (after-that f (given (right .is))) at-once) .gives in
-              subst (λ a. Agrees shapeOf Known w₀ v′ lo r′ a) (sym step)
-              (goes-on (λ f. tailFrom text (inText text) f k) t g (omega (arith, a .2 .order, a .2 .inside, f .later, f .sound .order)) d));
+              subst (λ a. Agrees shapeOf w₀ v′ r′ a) (sym step)
+              (goes-on (λ f. tailFrom text (inText text) f k) _ t g (omega (arith, a .2 .order, a .2 .inside, f .later, f .sound .order)) d));
         }
 
 -- ---- unary operators and picks
@@ -375,14 +352,14 @@ module _ {text w v : List ℕ} (x : Symbol) {r : Parsed} where
         asks-yes _ _ _ _ q (omega arith) (then-bad _ (after-that f (given (says-bad h e g (omega (arith, f .later, f .sound .order, f .sound .inside)))))))
 
     pub unary-goes : {at : ℕ} {z : Symbol} {u : List ℕ} → r ≡ parsed.Tree at z → u ≡ put v (x .at) (x .number) at → UnaryBy text w u x (parsed.Tree (x .at) z)
-    unfolding choiceFrom Known
+    unfolding choiceFrom
     unary-goes e wrote =
         let o = prefix-operator x q in
         let m = s .moves (omega arith) in
         let a = ahead-tree h e in
         builds (unaryFrom text (inText text)) x _ (omega arith) (omega arith, omega (arith, a, f .later), a .2) (λ g l.
         let d = says-tree h e g (omega (arith, f .later, f .sound .order, f .sound .inside)) in
-        prefixed shapeOf Known (unary (x .at) (x .number)) (x .at) (x .number) (λ a. refl) (λ a k. (o .0, o .1, k)) (omega arith) d (omega (arith, f .later)) wrote
+        prefixed shapeOf (unary (x .at) (x .number)) (x .at) (x .number) (λ a. refl) d wrote
         (asks-yes _ _ _ _ q (omega arith) (then-part _ (after-that f (given (d .is))) at-once) .gives))
 
 module _ {text w v : List ℕ} (x : Symbol) {r : Parsed} (h : PrimaryBy text w v x r) where
@@ -396,19 +373,18 @@ module _ {text w v : List ℕ} (x : Symbol) {r : Parsed} (h : PrimaryBy text w v
       let a = ahead-tree h e in
       record {
         ahead = ahead-wider text (x .at) r′ (a .0) (t .ahead);
-        says = stepped (λ f. Agrees shapeOf Known w u (x .at) r′ (postfixFrom text (inText text) f x)) (omega arith) (λ g l.
-            goes-on (picksFrom text (inText text)) t g (omega (arith, a .2 .order, a .2 .inside)) (says-tree h e g (omega arith)));
+        says = stepped (λ f. Agrees shapeOf w u r′ (postfixFrom text (inText text) f x)) (omega arith) (λ g l.
+            goes-on (picksFrom text (inText text)) _ t g (omega (arith, a .2 .order, a .2 .inside)) (says-tree h e g (omega arith)));
       }
 
 -- ---- brackets
 
 -- a part with the bracket that closes it
-module _ {A : Type 0} {shape : A → Shape} {known : A → Type 0} (m : ℕ → Symbol → Result Symbol A) (x : Symbol) {fuel : ℕ} {text w v : List ℕ} {lo : ℕ} where
-  closes-tree : (at : ℕ) (y : Symbol) (b : Bool) → is closeRound y ≡ b → ParsedBy shape known (λ f. m f x) fuel text w v lo (parsed.Tree at y) →
-      ParsedBy shape known (λ f. andThen (m f) (closed (inText text)) x) fuel text w v lo (cond b (parsed.Tree at (symbolAt text (y .end))) (parsed.Bad y))
+module _ {A : Type 0} {shape : A → Shape} (m : ℕ → Symbol → Result Symbol A) (x : Symbol) {fuel : ℕ} {text w v : List ℕ} {lo : ℕ} where
+  closes-tree : (at : ℕ) (y : Symbol) (b : Bool) → is closeRound y ≡ b → ParsedBy shape (λ f. m f x) fuel text w v lo (parsed.Tree at y) →
+      ParsedBy shape (λ f. andThen (m f) (closed (inText text)) x) fuel text w v lo (cond b (parsed.Tree at (symbolAt text (y .end))) (parsed.Bad y))
   closes-tree at y false q h = record { ahead = tt; says = λ f l. then-part _ (given (h .says f l .is)) (asks-no _ _ _ _ q at-once) .gives }
   closes-tree at y true q h =
-      let z = symbolAt text (y .end) in
       let a = h .ahead in
       let n = eqb-true (y .number) 17 q in
       let later = later-at text (y .end) (a .2 .inside) in
@@ -421,12 +397,10 @@ module _ {A : Type 0} {shape : A → Shape} {known : A → Type 0} (m : ℕ → 
               is = then-part _ (given (d .is)) (asks-yes _ _ _ _ q (omega arith) at-once) .gives;
               rooted = d .rooted;
               wrote = d .wrote;
-              tidy = within-wider lo (z .at) (shape (d .tree)) (omega arith) (omega (arith, a .2 .order, later)) (d .tidy);
-              fits = d .fits;
             };
       }
 
-  pub closes : (r : Parsed) → ParsedBy shape known (λ f. m f x) fuel text w v lo r → ParsedBy shape known (λ f. andThen (m f) (closed (inText text)) x) fuel text w v lo (closedOf text r)
+  pub closes : (r : Parsed) → ParsedBy shape (λ f. m f x) fuel text w v lo r → ParsedBy shape (λ f. andThen (m f) (closed (inText text)) x) fuel text w v lo (closedOf text r)
   closes (parsed.Bad y) h = record { ahead = tt; says = λ f l. then-bad _ (given (h .says f l)) .gives }
   closes (parsed.Tree at y) h = closes-tree at y (is closeRound y) refl h
 
@@ -434,7 +408,7 @@ module _ {A : Type 0} {shape : A → Shape} {known : A → Type 0} (m : ℕ → 
 
 module _ {text w v : List ℕ} (x : Symbol) (s : Sound text x) where
   pub primary-literal : {n : ℕ} {y : Symbol} → isLiteral x ≡ true → n ≡ formOf x → v ≡ put w (x .at) n 0 → Follows text x y → PrimaryBy text w v x (parsed.Tree (x .at) y)
-  unfolding choiceFrom Known lay Within
+  unfolding choiceFrom lay
   primary-literal q e wrote f =
       let most = leb-true (x .number) 33 (and-eq-true-iff (leb 22 (x .number)) (leb (x .number) 33) .0 q .1) in
       let m = s .moves (omega arith) in
@@ -444,12 +418,10 @@ module _ {text w v : List ℕ} (x : Symbol) (s : Sound text x) where
         is = asks-yes _ _ _ _ q (omega arith) (after-that f at-once) .gives;
         rooted = refl;
         wrote = subst (λ n. v ≡ put w (x .at) n 0) e wrote;
-        tidy = (omega arith, omega (arith, f .later), omega arith);
-        fits = omega arith;
       })
 
   pub primary-variable : {y : Symbol} → x .number ≡ 35 → v ≡ put w (x .at) variableTag 0 → Follows text x y → PrimaryBy text w v x (parsed.Tree (x .at) y)
-  unfolding choiceFrom Known lay Within
+  unfolding choiceFrom lay
   primary-variable q wrote f =
       let m = s .long q in
       builds (primaryFrom text (inText text)) x _ (omega arith) (omega arith, omega (arith, f .later), f .sound) (λ g l.
@@ -458,8 +430,6 @@ module _ {text w v : List ℕ} (x : Symbol) (s : Sound text x) where
         is = asks-no _ _ _ _ (ap (λ n. leb 22 n && leb n 33) q) (asks-yes _ _ _ _ (eq-eqb (x .number) 35 q) (omega arith) (after-that f at-once)) .gives;
         rooted = refl;
         wrote = wrote;
-        tidy = (omega arith, omega (arith, f .later), omega arith, omega arith);
-        fits = tt;
       })
 
   pub primary-brackets : {y : Symbol} {r r′ : Parsed} → x .number ≡ 16 → Follows text x y → ChoiceBy text w v y r → r′ ≡ closedOf text r → PrimaryBy text w v x r′
@@ -484,9 +454,6 @@ module _ {text w v : List ℕ} (x : Symbol) (s : Sound text x) where
 
 -- ---- calls
 
-function-tag : (n : ℕ) → n < 24 → functionTag n < 64
-function-tag n h = omega arith
-
 module _ {text w v : List ℕ} (x : Symbol) (s : Sound text x) (q : x .number ≡ 34) {y : Symbol} (f : Follows text x y) where
   pub call-none : (y .number ≡ 16 → ⊥) → CallBy text w v x (parsed.Bad y)
   unfolding choiceFrom
@@ -494,26 +461,23 @@ module _ {text w v : List ℕ} (x : Symbol) (s : Sound text x) (q : x .number �
 
   module _ (o : y .number ≡ 16) {z : Symbol} (i : Follows text y z) where
     pub call-bare : {n : ℕ} {t : Symbol} → n ≡ functionOf text x → z .number ≡ 17 → v ≡ put w (x .at) (functionTag n) 0 → Follows text z t → CallBy text w v x (parsed.Tree (x .at) t)
-    unfolding choiceFrom Known lay Within
+    unfolding choiceFrom lay
     call-bare {n} {t} e c wrote j =
         let m = s .moves (omega arith) in
         let m₁ = f .sound .moves (omega arith) in
         let m₂ = i .sound .moves (omega arith) in
-        let small = function-known text x in
         builds (λ f. callFrom text (inText text) f x) (symbolAt text (x .end)) _ (omega arith) (omega arith, omega (arith, m, m₁, m₂, f .later, i .later, j .later), j .sound) (λ g l.
         record {
           tree = bare (x .at) (functionOf text x);
           is = after-that f (asks-yes _ _ _ _ (eq-eqb (y .number) 16 o) (omega arith) (after-that i (asks-yes _ _ _ _ (eq-eqb (z .number) 17 c) (omega arith) (after-that j at-once)))) .gives;
           rooted = refl;
           wrote = subst (λ n. v ≡ put w (x .at) (functionTag n) 0) e wrote;
-          tidy = (omega arith, omega (arith, m, m₁, m₂, f .later, i .later, j .later), function-tag (functionOf text x) small, omega arith);
-          fits = small;
         })
 
     -- with arguments, which the bracket closes
     module _ (n : z .number ≡ 17 → ⊥) {r r′ : Parsed} (h : ArgumentsBy text w v z r) (e : r′ ≡ closedOf text r) where
-      inside : ParsedBy shapesOf KnownAll (λ f. andThen (argumentsFrom text (inText text) f) (closed (inText text)) z) (steps 13 text z) text w v (z .at) r′
-      inside = subst (λ r. ParsedBy shapesOf KnownAll (λ f. andThen (argumentsFrom text (inText text) f) (closed (inText text)) z) (steps 13 text z) text w v (z .at) r) (sym e)
+      inside : ParsedBy shapesOf (λ f. andThen (argumentsFrom text (inText text) f) (closed (inText text)) z) (steps 13 text z) text w v (z .at) r′
+      inside = subst (λ r. ParsedBy shapesOf (λ f. andThen (argumentsFrom text (inText text) f) (closed (inText text)) z) (steps 13 text z) text w v (z .at) r) (sym e)
           (closes (argumentsFrom text (inText text)) z r h)
 
       further : (x .at < z .at) × (z .at ≤ length text)
@@ -529,13 +493,11 @@ module _ {text w v : List ℕ} (x : Symbol) (s : Sound text x) (q : x .number �
           (then-bad _ (given (says-bad inside d g (omega (arith, further)))))))))
 
       pub call-goes : {k at : ℕ} {t : Symbol} {u : List ℕ} → k ≡ functionOf text x → r′ ≡ parsed.Tree at t → u ≡ put v (x .at) (functionTag k) at → CallBy text w u x (parsed.Tree (x .at) t)
-      unfolding choiceFrom Known
+      unfolding choiceFrom
       call-goes {at = at} {u = u} k d wrote =
           let a = ahead-tree inside d in
-          let small = function-known text x in
           builds (λ f. callFrom text (inText text) f x) (symbolAt text (x .end)) _ (omega arith) (omega arith, omega (arith, further, a), a .2) (λ g l.
           let c = says-tree inside d g (omega (arith, further)) in
-          prefixed shapeOf Known (call (x .at) (functionOf text x)) (x .at) (functionTag (functionOf text x)) (λ a. refl) (λ a k. (small, k)) (function-tag (functionOf text x) small)
-          c (further .0) (subst (λ n. u ≡ put v (x .at) (functionTag n) at) k wrote)
+          prefixed shapeOf (call (x .at) (functionOf text x)) (x .at) (functionTag (functionOf text x)) (λ a. refl) c (subst (λ n. u ≡ put v (x .at) (functionTag n) at) k wrote)
           (after-that f (asks-yes _ _ _ _ (eq-eqb (y .number) 16 o) (omega arith) (after-that i (asks-no _ _ _ _ (ne-eqb (z .number) 17 n)
           (then-part _ (given (c .is)) at-once)))) .gives))

@@ -1,18 +1,16 @@
 -- The picks of a part, path by path.
-use mathlib.Core.Path.{_≡_, refl, sym, subst, _∙_}
+use mathlib.Core.Path.{_≡_, refl, sym, subst}
 use mathlib.Core.List.{List}
-use mathlib.Core.Bool.{true, and-eq-true-iff}
-use Prim.Native.Nat.{ℕ, zero, suc, _+_, _-_, _*_, _<_, _≤_}
+use mathlib.Core.Bool.{and-eq-true-iff}
+use Prim.Native.Nat.{ℕ, suc, _+_, _<_}
 use native.Mathlib.Omega.{arith}
 use lib.Dec.{leb}
-use lib.ListN.{length}
 use borrow.Author.Tests.{leb-true, eqb-true}
 use Rattle.lexer.proofs.Law.Runs.{by-test}
 use Rattle.tree.specs.Tree.{Tree, pick}
 use Rattle.tree.specs.Slots.{root, lay, put, shapeOf, pickTag}
-use Rattle.tree.specs.Fits.{Within, Known}
 use Rattle.syntax.specs.Symbol.{symbolAt, is, dot, openSquare, closeSquare, isWord, isIndex, indexOf, memberOf}
-use Rattle.syntax.specs.Parser.{Result, part, refused, ask, expect, inText, picksFrom}
+use Rattle.syntax.specs.Parser.{Result, part, refused, expect, inText, picksFrom}
 use Rattle.syntax.specs.Inner.{Sound, Goes, Good, Agrees, PicksBy, memberPickOf, indexPickOf, pickingOf}
 use Rattle.syntax.specs.declared.symbol.Symbol.{Symbol}
 use Rattle.syntax.specs.declared.parse.Parsed.{Parsed}
@@ -73,27 +71,26 @@ module _ {text w : List ℕ} {at : ℕ} (x : Symbol) (s : Goes text at x) where
   pub picks-none : pickingOf text x ≡ picking.Nothing → PicksBy text w w at x (parsed.Tree at x)
   picks-none p = record {
     ahead = (omega arith, s .before, s .sound);
-    says = stepped (λ f. (lo : ℕ) (u : List ℕ) (e : Tree) → w ≡ lay u (shapeOf e) → at ≡ root (shapeOf e) → Within lo (x .at) (shapeOf e) → Known e →
-        Good shapeOf Known u w lo at x (picksFrom text (inText text) f e x)) (omega arith) (λ g l lo u e wrote rooted tidy fits.
-        record { tree = e; is = by-pick text g e x p; rooted = rooted; wrote = wrote; tidy = tidy; fits = fits });
+    says = stepped (λ f. (u : List ℕ) (e : Tree) → w ≡ lay u (shapeOf e) → at ≡ root (shapeOf e) →
+        Good shapeOf u w at x (picksFrom text (inText text) f e x)) (omega arith) (λ g l u e wrote rooted.
+        record { tree = e; is = by-pick text g e x p; rooted = rooted; wrote = wrote });
   }
 
   pub picks-bad : {y : Symbol} → pickingOf text x ≡ picking.Bad y → PicksBy text w w at x (parsed.Bad y)
   picks-bad {y} p = record {
     ahead = tt;
-    says = stepped (λ f. (lo : ℕ) (u : List ℕ) (e : Tree) → w ≡ lay u (shapeOf e) → at ≡ root (shapeOf e) → Within lo (x .at) (shapeOf e) → Known e →
-        picksFrom text (inText text) f e x ≡ refused y) (omega arith) (λ g l lo u e wrote rooted tidy fits. by-pick text g e x p);
+    says = stepped (λ f. (u : List ℕ) (e : Tree) → w ≡ lay u (shapeOf e) → at ≡ root (shapeOf e) →
+        picksFrom text (inText text) f e x ≡ refused y) (omega arith) (λ g l u e wrote rooted. by-pick text g e x p);
   }
 
   pub picks-goes : {i : ℕ} {z : Symbol} {u v : List ℕ} {r : Parsed} → pickingOf text x ≡ picking.Pick i z → u ≡ put w (x .at) (pickTag i) at → PicksBy text u v (x .at) z r → PicksBy text w v at x r
-  unfolding Known
   picks-goes {i} {z} {u} {v} {r} p wrote t =
       let a = pick-sound (s .sound) p in
       record {
         ahead = ahead-wider text at r (omega (arith, s .before)) (t .ahead);
-        says = stepped (λ f. (lo : ℕ) (u : List ℕ) (e : Tree) → w ≡ lay u (shapeOf e) → at ≡ root (shapeOf e) → Within lo (x .at) (shapeOf e) → Known e →
-            Agrees shapeOf Known u v lo r (picksFrom text (inText text) f e x)) (omega arith) (λ g l lo w₀ e wrote′ rooted tidy fits.
-            let inner : Good shapeOf Known w₀ w lo at x (part e x) = record { tree = e; is = refl; rooted = rooted; wrote = wrote′; tidy = tidy; fits = fits } in
-            let d = postfixed shapeOf Known (pick (x .at) i) (pickTag i) (λ a. refl) (λ b k. (a .2, k)) (omega arith) inner (a .0) wrote refl in
-            subst (λ a. Agrees shapeOf Known w₀ v lo r a) (sym (by-pick text g e x p)) (goes-on (picksFrom text (inText text)) t g (omega (arith, a .1 .order, a .1 .inside)) d));
+        says = stepped (λ f. (u : List ℕ) (e : Tree) → w ≡ lay u (shapeOf e) → at ≡ root (shapeOf e) →
+            Agrees shapeOf u v r (picksFrom text (inText text) f e x)) (omega arith) (λ g l w₀ e wrote′ rooted.
+            let inner : Good shapeOf w₀ w at x (part e x) = record { tree = e; is = refl; rooted = rooted; wrote = wrote′ } in
+            let d = postfixed shapeOf (pick (x .at) i) (x .at) (pickTag i) (λ a. refl) inner wrote refl in
+            subst (λ a. Agrees shapeOf w₀ v r a) (sym (by-pick text g e x p)) (goes-on (picksFrom text (inText text)) _ t g (omega (arith, a .1 .order, a .1 .inside)) d));
       }

@@ -6,7 +6,7 @@ use Prim.Native.Nat.{ℕ}
 use lib.Dec.{eqb}
 use borrow.Author.Tests.{eq-eqb, ne-eqb}
 use Rattle.syntax.specs.Symbol.{symbolAt, is, end}
-use Rattle.syntax.specs.Parser.{Result, part, refused, andThen, ask, atEnd, onNext, ended, followed, inText}
+use Rattle.syntax.specs.Parser.{Result, part, refused, andThen, ask, atEnd, onNext, followed, inText}
 use Rattle.syntax.specs.Inner.{Follows}
 use Rattle.syntax.specs.declared.symbol.Symbol.{Symbol}
 

@@ -2,7 +2,7 @@
 use mathlib.Core.Path.{_≡_, refl, ap, sym, subst, _∙_}
 use mathlib.Core.Bool.{Bool, true, false, false≢true}
 use mathlib.Core.List.{List, _++_}
-use Prim.Native.Nat.{ℕ, _*_, _-_, _+_, _≤_, _<_}
+use Prim.Native.Nat.{ℕ, _+_, _≤_, _<_}
 use native.Mathlib.Omega.{arith}
 use lib.Dec.{ltb}
 use lib.ListN.{length, take, drop, replicate}
@@ -12,15 +12,15 @@ use Rattle.lexer.specs.declared.scan.Verdict.the-variants as scan
 use Rattle.tree.specs.Tree.{Tree, place}
 use Rattle.tree.specs.Slots.{shapeOf, store}
 use Rattle.tree.specs.Node.{treeAt}
-use Rattle.tree.specs.Fits.{Known, pruned}
+use Rattle.tree.specs.Fits.{pruned}
 use Rattle.tree.proofs.Law.Places.{root-shape, length-lay}
 use Rattle.tree.proofs.Back.{stored}
 use Rattle.syntax.specs.Symbol.{symbolAt, end}
-use Rattle.syntax.specs.Parser.{Result, part, refused, atEnd, choiceFrom, inText, stepsFor, parseOf}
+use Rattle.syntax.specs.Parser.{Result, refused, choiceFrom, inText, stepsFor, parseOf}
 use Rattle.syntax.specs.Height.{heightOf}
 use Rattle.syntax.specs.Names.{unknownIn, leftmostOf}
 use Rattle.syntax.specs.Judge.{Judged, fine, refusal, byNames, byHeight, byGrammar, judgedOf, answered, answerOf, kept, slotsAfter}
-use Rattle.syntax.specs.Inner.{Sound, Good, Agrees, Ahead, ChoiceBy, WholeBy, namesJudged, treeJudged, Kept, JudgedBy}
+use Rattle.syntax.specs.Inner.{Good, Agrees, ChoiceBy, WholeBy, namesJudged, treeJudged, Kept, JudgedBy}
 use Rattle.syntax.specs.declared.symbol.Symbol.{Symbol}
 use Rattle.syntax.specs.declared.names.Leftmost.{Leftmost}
 use Rattle.syntax.specs.declared.names.Leftmost.the-variants.{At, Nothing}
@@ -29,7 +29,8 @@ use Rattle.syntax.specs.declared.judge.Judgement.the-variants.{Fine, Ref
 use Rattle.syntax.specs.declared.parse.Parsed.{Parsed}
 use Rattle.syntax.specs.declared.parse.Parsed.the-variants as parsed
 use Rattle.syntax.proofs.Law.Steps.{Gives, given, then-part, then-bad, ends-here, ends-later}
-use Rattle.syntax.proofs.Law.Parts.{ahead-tree, says-tree, says-bad, ahead-wider, agrees-wider}
+use Rattle.syntax.proofs.Law.Parts.{says-tree, says-bad}
+use Rattle.syntax.proofs.Laid.{parsed-fits}
 use Rattle.syntax.proofs.Law.Heights.{pruned-low, pruned-high}
 
 -- ---- the tree of a text
@@ -41,28 +42,25 @@ module _ {text w v : List ℕ} {x : Symbol} {r : Parsed} (i : x ≡ symbolAt tex
 
   pub whole-bad : {y : Symbol} → r ≡ parsed.Bad y → WholeBy text w v (parsed.Bad y)
   unfolding parseOf
-  whole-bad e = record { ahead = tt; says = then-bad _ (first (says-bad h e (stepsFor text) (omega arith))) .gives }
+  whole-bad e = record { says = then-bad _ (first (says-bad h e (stepsFor text) (omega arith))) .gives }
 
   module _ {at : ℕ} {y : Symbol} (e : r ≡ parsed.Tree at y) where
     pub whole-more : (y .number ≡ end → ⊥) → WholeBy text w v (parsed.Bad y)
     unfolding parseOf
     whole-more q =
         let d = says-tree h e (stepsFor text) (omega arith) in
-        record { ahead = tt; says = then-part _ (first (d .is)) (ends-later text (d .tree) y q) .gives }
+        record { says = then-part _ (first (d .is)) (ends-later text (d .tree) y q) .gives }
 
     pub whole-goes : y .number ≡ end → WholeBy text w v (parsed.Tree at y)
     unfolding parseOf
     whole-goes q =
-        let d = agrees-wider shapeOf Known w v _ 0 (parsed.Tree at y) (omega arith) (says-tree h e (stepsFor text) (omega arith)) in
+        let d = says-tree h e (stepsFor text) (omega arith) in
         record {
-          ahead = ahead-wider text 0 (parsed.Tree at y) (omega arith) (ahead-tree h e);
           says = record {
             tree = d .tree;
             is = then-part _ (first (d .is)) (ends-here text (d .tree) y q) .gives;
             rooted = d .rooted;
             wrote = d .wrote;
-            tidy = d .tidy;
-            fits = d .fits;
           };
         }
 
@@ -95,17 +93,16 @@ judged-alike text a b c = rw (a, b, c) refl
 module _ {text w v : List ℕ} {r : Parsed} (most : length text ≤ 1024) (room : length w ≡ length text) (h : WholeBy text w v r) where
   pub grammar-bad : {y : Symbol} → length v ≡ length w → r ≡ parsed.Bad y → JudgedBy (byGrammar (parseOf text) text) w v (Refused 4 (y .at))
   grammar-bad {y} same e =
-      let says : parseOf text ≡ refused y = subst (λ r. Agrees shapeOf Known w v 0 r (parseOf text)) e (h .says) in
+      let says : parseOf text ≡ refused y = subst (λ r. Agrees shapeOf w v r (parseOf text)) e (h .says) in
       subst (λ a. JudgedBy (byGrammar a text) w v (Refused 4 (y .at))) (sym says) (record { answers = refl; keeps = same })
 
   pub grammar-goes : {at : ℕ} {y : Symbol} {j : Judgement} → r ≡ parsed.Tree at y → j ≡ treeJudged text at (treeAt 64 v at) → JudgedBy (byGrammar (parseOf text) text) w v j
   grammar-goes {at} {y} {j} e answer =
-      let ahead : (0 ≤ at) × (at < y .at) × Sound text y = subst (λ r. Ahead text 0 r) e (h .ahead) in
-      let d : Good shapeOf Known w v 0 at y (parseOf text) = subst (λ r. Agrees shapeOf Known w v 0 r (parseOf text)) e (h .says) in
+      let d : Good shapeOf w v at y (parseOf text) = subst (λ r. Agrees shapeOf w v r (parseOf text)) e (h .says) in
       let t = d .tree in
       let root : at ≡ place t = d .rooted ∙ root-shape t in
-      let s = ahead .2 in
-      let back = stored w 0 (y .at) t 64 (d .tidy) (d .fits) (omega (arith, s .order, s .inside)) (omega (arith, s .order, s .inside)) in
+      let fits = parsed-fits text t y (d .is) in
+      let back = stored w 0 (length text) t 64 (fits .0) (fits .1) most (omega arith) in
       subst (λ a. JudgedBy (byGrammar a text) w v j) (sym (d .is)) (record {
         answers = answer ∙ judged-alike text (d .wrote) root back ∙ height-judged text t (ltb 64 (heightOf t)) refl;
         keeps = subst (λ v. Kept (byHeight (ltb 64 (heightOf t)) text t) w v) (sym (d .wrote)) (height-kept text t w (ltb 64 (heightOf t)));

@@ -6,12 +6,10 @@ use Prim.Native.Nat.{ℕ, _+_, _-_, _<_}
 use native.Mathlib.Omega.{arith}
 use lib.ListN.{getD}
 use lib.Dec.{eqb}
-use borrow.Author.Tests.{eq-eqb, ne-eqb, lt-ltb, le-ltb}
-use Rattle.tree.specs.Slots.{word, tagAt, linkAt, leftAt, variableTag, functionTag, operatorTag, commaTag, pickTag}
+use borrow.Author.Tests.{ne-eqb, lt-ltb, le-ltb}
+use Rattle.tree.specs.Slots.{word, tagAt, leftAt, variableTag, functionTag, operatorTag, commaTag, pickTag}
 use Rattle.tree.specs.Node.{nodeAt, argumentAt}
-use Rattle.tree.specs.declared.node.Node.{Node}
 use Rattle.tree.specs.declared.node.Node.the-variants.{Literal, Variable, Unary, Binary, Conditional, Bare, Call, Pick}
-use Rattle.tree.specs.declared.node.Argument.{Argument}
 use Rattle.tree.specs.declared.node.Argument.the-variants.{Last, Next}
 use Rattle.tree.proofs.Law.Words.{tag-word, link-word}
 

@@ -1,11 +1,11 @@
 -- A slot's tag and link, and what writing a slot leaves as it was.
-use mathlib.Core.Path.{_≡_, refl, ap, _∙_}
+use mathlib.Core.Path.{_≡_, refl, _∙_}
 use mathlib.Core.List.{List, [], _∷_}
 use Prim.Native.Nat.{ℕ, zero, suc, _-_, _/_, _%_, _<_}
 use native.Mathlib.Omega.{arith}
-use lib.ListN.{getD, set}
+use lib.ListN.{getD}
 use lib.Seq.{getD-set-other}
-use Rattle.tree.specs.Slots.{word, tagAt, linkAt, setLink, join, put}
+use Rattle.tree.specs.Slots.{word, tagAt, setLink, join, put}
 
 pub tag-word : (tag link : ℕ) → tag < 64 → word tag link / 1024 ≡ tag
 tag-word tag link small = omega arith

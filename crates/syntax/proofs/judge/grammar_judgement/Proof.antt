@@ -1,11 +1,6 @@
 use borrow.Author.Needs.{needs}
 use Rattle.syntax.proofs.judge.grammar_judgement.Statement.{statement}
 use Rattle.syntax.proofs.judge.grammar_judgement.Tie as tie
-use Rattle.syntax.proofs.judge.grammar_judgement.Reads as reads
-use Rattle.syntax.proofs.judge.grammar_judgement.Lts as lts
-use Rattle.syntax.proofs.judge.tree_judgement.Reads as tree-judgement-reads
-use Rattle.syntax.proofs.parse.parse.Reads as parse-reads
-use mathlib.Core.Path.{_∙_}
 use Rattle.syntax.proofs.Law.Whole.{grammar-bad, grammar-goes}
 
 parse-requires : tie.Need-parse-requires

@@ -1,9 +1,6 @@
 use borrow.Author.Needs.{needs}
 use Rattle.syntax.proofs.judge.judge.Statement.{statement}
 use Rattle.syntax.proofs.judge.judge.Tie as tie
-use Rattle.syntax.proofs.judge.judge.Reads as reads
-use Rattle.syntax.proofs.judge.judge.Lts as lts
-use Rattle.syntax.proofs.judge.own_judgement.Reads as own-judgement-reads
 use mathlib.Core.Path.{sym}
 use lib.Seq.{length-take-le}
 use Rattle.syntax.proofs.Law.Whole.{room-short, room-enough}

@@ -1,10 +1,6 @@
 use borrow.Author.Needs.{needs}
 use Rattle.syntax.proofs.judge.own_judgement.Statement.{statement}
 use Rattle.syntax.proofs.judge.own_judgement.Tie as tie
-use Rattle.syntax.proofs.judge.own_judgement.Reads as reads
-use Rattle.syntax.proofs.judge.own_judgement.Lts as lts
-use Rattle.syntax.proofs.judge.clear.Reads as clear-reads
-use Rattle.syntax.proofs.judge.size_judgement.Reads as size-judgement-reads
 use mathlib.Core.Path.{sym, _∙_}
 use Rattle.syntax.proofs.Law.Whole.{kept-fine, kept-refused}
 

@@ -1,10 +1,6 @@
 use borrow.Author.Needs.{needs}
 use Rattle.syntax.proofs.judge.size_judgement.Statement.{statement}
 use Rattle.syntax.proofs.judge.size_judgement.Tie as tie
-use Rattle.syntax.proofs.judge.size_judgement.Reads as reads
-use Rattle.syntax.proofs.judge.size_judgement.Lts as lts
-use Rattle.lexer.proofs.scan.scan.Reads as scan-reads
-use Rattle.syntax.proofs.judge.grammar_judgement.Reads as grammar-judgement-reads
 use mathlib.Core.Path.{sym, _∙_}
 use Rattle.syntax.proofs.Law.Whole.{size-over, tokens-bad, tokens-fine}
 

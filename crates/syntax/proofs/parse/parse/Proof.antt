@@ -1,10 +1,6 @@
 use borrow.Author.Needs.{needs}
 use Rattle.syntax.proofs.parse.parse.Statement.{statement}
 use Rattle.syntax.proofs.parse.parse.Tie as tie
-use Rattle.syntax.proofs.parse.parse.Reads as reads
-use Rattle.syntax.proofs.parse.parse.Lts as lts
-use Rattle.syntax.proofs.parse.choice.Reads as choice-reads
-use Rattle.syntax.proofs.symbol.symbol_at.Reads as symbol-at-reads
 use Rattle.syntax.proofs.Law.Symbols.{sound-as}
 use Rattle.syntax.proofs.Law.Whole.{whole-bad, whole-more, whole-goes}
 

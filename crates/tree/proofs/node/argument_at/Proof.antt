@@ -3,11 +3,6 @@ use borrow.Author.Tests.{eq-eqb, ne-eqb}
 use Rattle.tree.specs.Node.{argumentAt}
 use Rattle.tree.proofs.node.argument_at.Statement.{statement}
 use Rattle.tree.proofs.node.argument_at.Tie as tie
-use Rattle.tree.proofs.node.argument_at.Reads as reads
-use Rattle.tree.proofs.node.argument_at.Lts as lts
-use Rattle.tree.proofs.slots.left_at.Reads as left-at-reads
-use Rattle.tree.proofs.slots.link_at.Reads as link-at-reads
-use Rattle.tree.proofs.slots.tag_at.Reads as tag-at-reads
 
 tag-at-requires : tie.Need-tag-at-requires
 tag-at-requires c κs = search needs

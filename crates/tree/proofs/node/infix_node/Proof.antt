@@ -3,12 +3,6 @@ use borrow.Author.Tests.{eq-eqb, ne-eqb}
 use Rattle.tree.specs.Node.{infixNode}
 use Rattle.tree.proofs.node.infix_node.Statement.{statement}
 use Rattle.tree.proofs.node.infix_node.Tie as tie
-use Rattle.tree.proofs.node.infix_node.Reads as reads
-use Rattle.tree.proofs.node.infix_node.Lts as lts
-use Rattle.tree.proofs.node.operator_of.Reads as operator-of-reads
-use Rattle.tree.proofs.slots.left_at.Reads as left-at-reads
-use Rattle.tree.proofs.slots.link_at.Reads as link-at-reads
-use Rattle.tree.proofs.slots.tag_at.Reads as tag-at-reads
 
 tag-at-requires : tie.Need-tag-at-requires
 tag-at-requires c κs = search needs

@@ -3,12 +3,6 @@ use borrow.Author.Tests.{lt-ltb, le-ltb}
 use Rattle.tree.specs.Node.{nodeAt}
 use Rattle.tree.proofs.node.node_at.Statement.{statement}
 use Rattle.tree.proofs.node.node_at.Tie as tie
-use Rattle.tree.proofs.node.node_at.Reads as reads
-use Rattle.tree.proofs.node.node_at.Lts as lts
-use Rattle.tree.proofs.node.infix_node.Reads as infix-node-reads
-use Rattle.tree.proofs.node.prefix_node.Reads as prefix-node-reads
-use Rattle.tree.proofs.slots.link_at.Reads as link-at-reads
-use Rattle.tree.proofs.slots.tag_at.Reads as tag-at-reads
 
 tag-at-requires : tie.Need-tag-at-requires
 tag-at-requires c κs = search needs

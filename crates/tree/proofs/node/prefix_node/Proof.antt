@@ -1,10 +1,7 @@
-use borrow.Author.Needs.{needs}
 use borrow.Author.Tests.{lt-ltb, le-ltb, eq-eqb, ne-eqb}
 use Rattle.tree.specs.Node.{prefixNode}
 use Rattle.tree.proofs.node.prefix_node.Statement.{statement}
 use Rattle.tree.proofs.node.prefix_node.Tie as tie
-use Rattle.tree.proofs.node.prefix_node.Reads as reads
-use Rattle.tree.proofs.node.prefix_node.Lts as lts
 
 returns : tie.Need-returns
 unfolding prefixNode

@@ -1,10 +1,6 @@
 use borrow.Author.Needs.{needs}
 use Rattle.tree.proofs.slots.left_at.Statement.{statement}
 use Rattle.tree.proofs.slots.left_at.Tie as tie
-use Rattle.tree.proofs.slots.left_at.Reads as reads
-use Rattle.tree.proofs.slots.left_at.Lts as lts
-use Rattle.tree.proofs.slots.link_at.Reads as link-at-reads
-use Rattle.tree.proofs.slots.place_before.Reads as place-before-reads
 
 place-before-requires : tie.Need-place-before-requires
 place-before-requires c κs = search needs

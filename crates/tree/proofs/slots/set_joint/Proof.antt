@@ -1,11 +1,6 @@
 use borrow.Author.Needs.{needs}
 use Rattle.tree.proofs.slots.set_joint.Statement.{statement}
 use Rattle.tree.proofs.slots.set_joint.Tie as tie
-use Rattle.tree.proofs.slots.set_joint.Reads as reads
-use Rattle.tree.proofs.slots.set_joint.Lts as lts
-use Rattle.tree.proofs.slots.place_before.Reads as place-before-reads
-use Rattle.tree.proofs.slots.set_link.Reads as set-link-reads
-use Rattle.tree.proofs.slots.set_slot.Reads as set-slot-reads
 
 set-slot-requires : tie.Need-set-slot-requires
 set-slot-requires c κs = search needs

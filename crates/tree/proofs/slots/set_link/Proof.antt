@@ -1,10 +1,6 @@
 use borrow.Author.Needs.{needs}
 use Rattle.tree.proofs.slots.set_link.Statement.{statement}
 use Rattle.tree.proofs.slots.set_link.Tie as tie
-use Rattle.tree.proofs.slots.set_link.Reads as reads
-use Rattle.tree.proofs.slots.set_link.Lts as lts
-use Rattle.tree.proofs.slots.set_slot.Reads as set-slot-reads
-use Rattle.tree.proofs.slots.tag_at.Reads as tag-at-reads
 
 tag-at-requires : tie.Need-tag-at-requires
 tag-at-requires c κs = search needs

@@ -3,9 +3,6 @@ use lib.Seq.{set-out}
 use borrow.Author.Needs.{needs}
 use Rattle.tree.proofs.slots.set_slot.Statement.{statement}
 use Rattle.tree.proofs.slots.set_slot.Tie as tie
-use Rattle.tree.proofs.slots.set_slot.Reads as reads
-use Rattle.tree.proofs.slots.set_slot.Lts as lts
-use Rattle.tree.proofs.slots.packed.Reads as packed-reads
 
 packed-requires : tie.Need-packed-requires
 packed-requires c κs = search needs
