@@ -141,6 +141,5 @@ fn room_agrees(name: &[u8], head: &[u8], text: &[u8], slots: &mut [u16]) -> bool
 
 pub(crate) fn agrees(name: &[u8], head: &[u8], text: &[u8], tree: &[u8]) -> bool {
     let mut slots = [UNUSED; SLOTS];
-    room_agrees(name, head, text, &mut slots)
-        & judgement_agrees(name, head, text, tree, &mut slots)
+    room_agrees(name, head, text, &mut slots) & judgement_agrees(name, head, text, tree, &mut slots)
 }
