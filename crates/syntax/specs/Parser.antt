@@ -7,7 +7,7 @@ use Prim.Native.Nat.{ℕ, zero, suc, _+_, _*_}
 use lib.ListN.{length}
 use Rattle.tree.specs.Tree.{Tree, literal, unary, binary, conditional, bare, call, pick, Arguments, last, next}
 use Rattle.tree.specs.Tree as tree
-use Rattle.syntax.specs.Symbol.{question, colon, openRound, closeRound, openSquare, closeSquare, comma, dot, word, end, symbolAt, is, isLiteral, formOf, isIndex, indexOf, isWord, isPrefix, rows, inRow, functionOf, memberOf}
+use Rattle.syntax.specs.Symbol.{question, colon, openRound, closeRound, openSquare, closeSquare, comma, dot, word, end, symbolAt, is, isLiteral, formOf, isIndex, indexOf, isWord, isPrefix, rowOf, rows, inRow, functionOf, memberOf}
 use Rattle.syntax.specs.Symbol as symbol
 use Rattle.syntax.specs.declared.symbol.Symbol.{Symbol}
 
@@ -146,5 +146,5 @@ stepsFor text = length text * 32 + 32
 
 -- The tree of a text, or the symbol at which it is refused with 4.
 unfoldable pub parseOf : List ℕ → Result Symbol Tree
-unfolding symbolAt andThen ask atEnd choiceFrom
+unfolding symbolAt rowOf andThen ask atEnd choiceFrom
 parseOf text = wholeFrom text (inText text) (stepsFor text) (symbolAt text 0)

@@ -4,12 +4,10 @@ ghost use lib.Dec.{leb};
 ghost use Rattle.tree.specs.Node.{treeAt, argumentsAt};
 ghost use Rattle.syntax.specs.Height.{heightOf, heightOfAll};
 use tree::node::Argument;
+use tree::node::MOST_COMMAS;
 use tree::node::Node;
 use tree::node::argument_at;
 use tree::node::node_at;
-
-// No call has as many commas.
-const MOST_COMMAS: usize = 1024;
 
 // Whether the tree at a place is no higher than an allowance.
 pub fn is_within(slots: &[u16], at: usize, allowance: usize) -> bool

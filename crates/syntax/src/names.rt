@@ -8,6 +8,7 @@ use crate::symbol::symbol_at;
 use colour::colour::Colour;
 use colour::text::Named;
 use tree::node::Argument;
+use tree::node::MOST_COMMAS;
 use tree::node::Node;
 use tree::node::argument_at;
 use tree::node::node_at;
@@ -24,8 +25,6 @@ const COMPONENTS: usize = 4;
 const COLOR: usize = 5;
 
 const STRING: usize = 1;
-
-const MOST_COMMAS: usize = 1024;
 
 // The one of two that stands further to the left.
 fn earlier(a: Leftmost, b: Leftmost) -> Leftmost

@@ -4,12 +4,10 @@ use crate::page;
 use lexer::token::Lexeme;
 use lexer::token::token_at;
 use tree::node::Argument;
+use tree::node::MOST_COMMAS;
 use tree::node::Node;
 use tree::node::argument_at;
 use tree::node::node_at;
-
-// No call has as many commas.
-const MOST_COMMAS: usize = 1024;
 
 // Their numbers as punctuators.
 const QUESTION: usize = 0;

@@ -48,6 +48,9 @@ pub enum Argument {
     Next { first: usize, rest: usize },
 }
 
+// No call has as many commas.
+pub const MOST_COMMAS: usize = 1024;
+
 fn prefix_node(tag: usize, link: usize) -> Node
     ensures { λ r. ⌜ r ≡ prefixNode tag link ⌝ }
 {
