@@ -157,9 +157,15 @@ class Reading:
         if not self.is_one_of([b'?']):
             return test
         sign = self.take()
-        first = self.expression()
+        first = self.middle()
         self.take_sign(b':')
-        return self.node('conditional', sign, test, first, self.expression())
+        return self.node('conditional', sign, test, first, self.right())
+
+    def middle(self):
+        return self.expression()
+
+    def right(self):
+        return self.expression()
 
     def binary(self, level):
         """Binary operators group to the left."""
@@ -490,24 +496,8 @@ def nested_left(self):
     return test
 
 
-def narrow_middle(self):
-    test = self.binary(0)
-    if not self.is_one_of([b'?']):
-        return test
-    sign = self.take()
-    first = self.binary(0)
-    self.take_sign(b':')
-    return self.node('conditional', sign, test, first, self.expression())
-
-
-def narrow_right(self):
-    test = self.binary(0)
-    if not self.is_one_of([b'?']):
-        return test
-    sign = self.take()
-    first = self.expression()
-    self.take_sign(b':')
-    return self.node('conditional', sign, test, first, self.binary(0))
+def no_conditional(self):
+    return self.binary(0)
 
 
 def picked_last(self):
@@ -678,8 +668,8 @@ def levels(*numbers):
 WRONG = {
     'binary operators to the right': wrong(binary=grouped_right),
     'conditional to the left': wrong(expression=nested_left),
-    'conditional without another in its middle': wrong(expression=narrow_middle),
-    'conditional without another to its right': wrong(expression=narrow_right),
+    'conditional without another in its middle': wrong(middle=no_conditional),
+    'conditional without another to its right': wrong(right=no_conditional),
     '-v.x as (-v).x': wrong(unary=picked_last),
     'one unary operator': wrong(unary=one_unary),
     'unary operators over products': wrong(unary=loose_unary),

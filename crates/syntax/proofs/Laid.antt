@@ -1,12 +1,12 @@
 -- A parsed tree lies in its text and has known numbers, so it is read back from the slots into which it was laid.
 use mathlib.Core.Path.{_≡_, refl, subst, _∙_}
-use mathlib.Core.Bool.{Bool, true, false, _&&_, and-eq-true-iff}
+use mathlib.Core.Bool.{Bool, true, false}
 use mathlib.Core.List.{List, _++_}
 use Prim.Native.Nat.{ℕ, zero, suc, _+_, _<_, _≤_}
 use native.Mathlib.Omega.{arith}
-use lib.Dec.{ltb, leb}
+use lib.Dec.{ltb}
 use lib.ListN.{length, take, drop, length-take}
-use borrow.Author.Tests.{eqb-true, leb-true, ltb-false, le-ltb}
+use borrow.Author.Tests.{eqb-true, ltb-false, le-ltb}
 use Rattle.lexer.specs.Scan.{scanOf}
 use Rattle.lexer.specs.declared.scan.Verdict.{Verdict}
 use Rattle.lexer.specs.declared.scan.Verdict.the-variants as scan
@@ -16,7 +16,7 @@ use Rattle.tree.specs.Node.{treeAt}
 use Rattle.tree.specs.Fits.{Within, Known, KnownAll}
 use Rattle.tree.proofs.Law.Places.{within-le, within-wider, length-lay}
 use Rattle.tree.proofs.Back.{holds-lay, holds-more, read-back}
-use Rattle.syntax.specs.Symbol.{question, colon, openRound, closeRound, openSquare, closeSquare, comma, dot, word, end, symbolAt, is, isLiteral, formOf, isIndex, indexOf, isWord, isPrefix, rowOf, rows, inRow, functionOf, memberOf}
+use Rattle.syntax.specs.Symbol.{question, colon, openRound, closeRound, openSquare, closeSquare, comma, dot, word, end, symbolAt, is, isLiteral, formOf, isIndex, indexOf, isWord, isPrefix, precedenceOf, levels, hasPrecedence, functionOf, memberOf}
 use Rattle.syntax.specs.Symbol as symbol
 use Rattle.syntax.specs.Parser.{
   Result,
@@ -34,7 +34,7 @@ use Rattle.syntax.specs.Parser.{
   Branches,
   branches,
   chosen,
-  choiceFrom,
+  expressionFrom,
   branchesFrom,
   levelFrom,
   tailFrom,
@@ -56,8 +56,8 @@ use Rattle.syntax.specs.Inner.{Sound, branchesShape}
 use Rattle.syntax.specs.declared.symbol.Symbol.{Symbol}
 use Rattle.syntax.specs.declared.names.Leftmost.{Leftmost}
 use Rattle.syntax.specs.declared.names.Leftmost.the-variants.{At, Nothing}
-use Rattle.syntax.proofs.Law.Symbols.{sound-at, later-at, function-known, member-known}
-use Rattle.syntax.proofs.Law.Levels.{row-operator, prefix-operator}
+use Rattle.syntax.proofs.Law.Symbols.{sound-at, later-at, function-known, member-known, in-range}
+use Rattle.syntax.proofs.Law.Levels.{operator-number, prefix-operator}
 use Rattle.syntax.proofs.Law.Heights.{pruned-low}
 
 -- ---- what fits
@@ -97,26 +97,23 @@ Low test = (x : Symbol) → test x ≡ true → x .number < 36
 low-is : (n : ℕ) → n < 36 → Low (is n)
 low-is n h x e = omega (arith, eqb-true (x .number) n e)
 
-low-most : (n m k : ℕ) → leb n k && leb k m ≡ true → k ≤ m
-low-most n m k e = leb-true k m (and-eq-true-iff (leb n k) (leb k m) .0 e .1)
-
 low-literal : Low isLiteral
-low-literal x e = omega (arith, low-most 22 33 (x .number) e)
+low-literal x e = omega (arith, in-range 22 33 (x .number) e)
 
 low-index : Low isIndex
-low-index x e = omega (arith, low-most 22 25 (x .number) e)
+low-index x e = omega (arith, in-range 22 25 (x .number) e)
 
 low-word : Low isWord
-low-word x e = omega (arith, low-most 28 34 (x .number) e)
+low-word x e = omega (arith, in-range 28 34 (x .number) e)
 
 low-prefix : Low isPrefix
 low-prefix x e = omega (arith, prefix-operator x e)
 
-row-passed : (k : ℕ) (x : Symbol) → inRow (suc k) x ≡ true → (1 < x .number) × (x .number < 15)
-row-passed k x e = row-operator (x .number) k (eqb-true (rowOf (x .number)) (suc k) e)
+operator-passed : (k : ℕ) (x : Symbol) → hasPrecedence (suc k) x ≡ true → (1 < x .number) × (x .number < 15)
+operator-passed k x e = operator-number (x .number) k (eqb-true (precedenceOf (x .number)) (suc k) e)
 
-low-row : (k : ℕ) → Low (inRow (suc k))
-low-row k x e = omega (arith, row-passed k x e)
+low-operator : (k : ℕ) → Low (hasPrecedence (suc k))
+low-operator k x e = omega (arith, operator-passed k x e)
 
 -- x has passed a test, and t follows it
 record Past (text : List ℕ) (test : Symbol → Bool) (x t : Symbol) : Type 0 where
@@ -234,7 +231,7 @@ module _ {text : List ℕ} {lo : ℕ} where
   fit-literal : {x t : Symbol} → lo ≤ x .at → Past text isLiteral x t → Fit shapeOf Known text lo (literal (x .at) (formOf x)) t
   unfolding Known Within
   fit-literal {x} from p =
-      let most = low-most 22 33 (x .number) (p .passed) in
+      let most = in-range 22 33 (x .number) (p .passed) in
       record { sound = p .on .sound; tidy = (from, omega (arith, p .on .from), omega arith); fits = omega arith }
 
   fit-variable : {x t : Symbol} → From text lo x → Past text (is symbol.variable) x t → Fit shapeOf Known text lo (variable (x .at) 0) t
@@ -251,19 +248,19 @@ module _ {text : List ℕ} {lo : ℕ} where
 
 module _ (text : List ℕ) where
   mutual
-    unfolding choiceFrom
+    unfolding expressionFrom
 
-    choice-fits : (f lo : ℕ) (s : Symbol) → From text lo s → Fits shapeOf Known text lo (choiceFrom text (inText text) f) s
-    choice-fits zero lo s i = fits-nothing
-    choice-fits (suc f) lo s i =
-        fits-then (level-fits f rows lo s i) (λ c x h.
+    expression-fits : (f lo : ℕ) (s : Symbol) → From text lo s → Fits shapeOf Known text lo (expressionFrom text (inText text) f) s
+    expression-fits zero lo s i = fits-nothing
+    expression-fits (suc f) lo s i =
+        fits-then (level-fits f levels lo s i) (λ c x h.
         fits-ask _ (low-is question (omega arith)) (h .sound) (λ t p. fits-then (branches-fits f (x .at + 1) t (p .on)) (λ b u k. fits-part (fit-chosen b h k))) (fits-part h))
 
     branches-fits : (f lo : ℕ) (s : Symbol) → From text lo s → Fits branchesShape KnownBranches text lo (branchesFrom text (inText text) f) s
     branches-fits zero lo s i = fits-nothing
     branches-fits (suc f) lo s i =
-        fits-then (choice-fits f lo s i) (λ a x h.
-        fits-ask _ (low-is colon (omega arith)) (h .sound) (λ t p. fits-then (choice-fits f (x .at + 1) t (p .on)) (λ b u k. fits-part (fit-branches h k))) fits-refused)
+        fits-then (expression-fits f lo s i) (λ a x h.
+        fits-ask _ (low-is colon (omega arith)) (h .sound) (λ t p. fits-then (expression-fits f (x .at + 1) t (p .on)) (λ b u k. fits-part (fit-branches h k))) fits-refused)
 
     level-fits : (f k lo : ℕ) (s : Symbol) → From text lo s → Fits shapeOf Known text lo (levelFrom text (inText text) f k) s
     level-fits zero k lo s i = fits-nothing
@@ -273,8 +270,8 @@ module _ (text : List ℕ) where
     tail-fits : (f k lo : ℕ) (e : Tree) (x : Symbol) → Fit shapeOf Known text lo e x → Fits shapeOf Known text lo (tailFrom text (inText text) f k e) x
     tail-fits zero k lo e x h = fits-nothing
     tail-fits (suc f) k lo e x h =
-        fits-ask _ (low-row k) (h .sound) (λ t p.
-        fits-then (level-fits f k (x .at + 1) t (p .on)) (λ d u i. tail-fits f k lo (binary (x .at) (x .number) e d) u (fit-binary (row-passed k x (p .passed)) h i))) (fits-part h)
+        fits-ask _ (low-operator k) (h .sound) (λ t p.
+        fits-then (level-fits f k (x .at + 1) t (p .on)) (λ d u i. tail-fits f k lo (binary (x .at) (x .number) e d) u (fit-binary (operator-passed k x (p .passed)) h i))) (fits-part h)
 
     unary-fits : (f lo : ℕ) (s : Symbol) → From text lo s → Fits shapeOf Known text lo (unaryFrom text (inText text) f) s
     unary-fits zero lo s i = fits-nothing
@@ -295,7 +292,7 @@ module _ (text : List ℕ) where
         (λ y p. fits-ask _ low-index (p .on .sound)
         (λ z q. fits-ask _ (low-is closeSquare (omega arith)) (q .on .sound)
         (λ t r. picks-fits f lo (pick (x .at) (indexOf y) e) t
-        (fit-pick (indexOf y) (omega (arith, low-most 22 25 (y .number) (q .passed))) h (omega (arith, p .on .from, q .on .from, r .on .from)) (r .on .sound))) fits-refused) fits-refused)
+        (fit-pick (indexOf y) (omega (arith, in-range 22 25 (y .number) (q .passed))) h (omega (arith, p .on .from, q .on .from, r .on .from)) (r .on .sound))) fits-refused) fits-refused)
         (fits-part h))
 
     primary-fits : (f lo : ℕ) (s : Symbol) → From text lo s → Fits shapeOf Known text lo (primaryFrom text (inText text) f) s
@@ -304,7 +301,7 @@ module _ (text : List ℕ) where
         fits-ask _ low-literal (i .sound) (λ t p. fits-part (fit-literal (i .from) p))
         (fits-ask _ (low-is symbol.variable (omega arith)) (i .sound) (λ t p. fits-part (fit-variable i p))
         (fits-ask _ (low-is openRound (omega arith)) (i .sound)
-        (λ t p. fits-then (choice-fits f lo t (from-wider (s .at + 1) lo (omega (arith, i .from)) (p .on))) (λ e x h. fits-closed h))
+        (λ t p. fits-then (expression-fits f lo t (from-wider (s .at + 1) lo (omega (arith, i .from)) (p .on))) (λ e x h. fits-closed h))
         (fits-ask _ (low-is word (omega arith)) (i .sound) (λ t p. call-fits f lo s t (i .from) (p .on)) fits-refused)))
 
     call-fits : (f lo : ℕ) (x s : Symbol) → lo ≤ x .at → From text (x .at + 1) s → Fits shapeOf Known text lo (callFrom text (inText text) f x) s
@@ -320,14 +317,14 @@ module _ (text : List ℕ) where
     arguments-fits : (f lo : ℕ) (s : Symbol) → From text lo s → Fits shapesOf KnownAll text lo (argumentsFrom text (inText text) f) s
     arguments-fits zero lo s i = fits-nothing
     arguments-fits (suc f) lo s i =
-        fits-then (choice-fits f lo s i) (λ e x h.
+        fits-then (expression-fits f lo s i) (λ e x h.
         fits-ask _ (low-is comma (omega arith)) (h .sound) (λ t p. fits-then (arguments-fits f (x .at + 1) t (p .on)) (λ xs u k. fits-part (fit-next h k))) (fits-part (fit-last h)))
 
 -- ---- the tree of a text
 
 whole-fits : (text : List ℕ) → FitsIn shapeOf Known text 0 (parseOf text)
 unfolding parseOf
-whole-fits text = fits-then (choice-fits text (stepsFor text) 0 (symbolAt text 0) (record { sound = sound-at text 0; from = omega arith })) (λ e t h. fits-end h) .gives
+whole-fits text = fits-then (expression-fits text (stepsFor text) 0 (symbolAt text 0) (record { sound = sound-at text 0; from = omega arith })) (λ e t h. fits-end h) .gives
 
 pub parsed-fits : (text : List ℕ) (e : Tree) (y : Symbol) → parseOf text ≡ part e y → Within 0 (length text) (shapeOf e) × Known e
 parsed-fits text e y h =

@@ -11,7 +11,7 @@ use Rattle.tree.specs.Node.{argumentAt}
 use Rattle.tree.specs.declared.node.Argument.{Argument}
 use Rattle.tree.specs.declared.node.Argument.the-variants.{Last, Next}
 use Rattle.syntax.specs.Symbol.{dot, openSquare, closeSquare, closeRound, is, isWord, isIndex, indexOf, memberOf, symbolAt}
-use Rattle.syntax.specs.Parser.{Result, part, refused, Branches, branches, choiceFrom, branchesFrom, levelFrom, tailFrom, unaryFrom, postfixFrom, picksFrom, primaryFrom, callFrom, argumentsFrom, inText, parseOf}
+use Rattle.syntax.specs.Parser.{Result, part, refused, Branches, branches, expressionFrom, branchesFrom, levelFrom, tailFrom, unaryFrom, postfixFrom, picksFrom, primaryFrom, callFrom, argumentsFrom, inText, parseOf}
 use Rattle.syntax.specs.Height.{heightOf}
 use Rattle.syntax.specs.Names.{unknownIn, lesser, leftmostOf}
 use Rattle.syntax.specs.Judge.{Judged, fine, refusal, answered}
@@ -81,8 +81,8 @@ steps c text x = (length text - x .at) * 32 + c
 abbrev pub branchesShape : Branches → Shape
 branchesShape (branches q a b) = between q (operatorTag 1) (shapeOf a) (shapeOf b)
 
-abbrev pub ChoiceBy : List ℕ → List ℕ → List ℕ → Symbol → Parsed → Type 0
-ChoiceBy text w v x r = ParsedBy shapeOf (λ f. choiceFrom text (inText text) f x) (steps 12 text x) text w v (x .at) r
+abbrev pub ExpressionBy : List ℕ → List ℕ → List ℕ → Symbol → Parsed → Type 0
+ExpressionBy text w v x r = ParsedBy shapeOf (λ f. expressionFrom text (inText text) f x) (steps 12 text x) text w v (x .at) r
 
 abbrev pub BranchesBy : List ℕ → List ℕ → List ℕ → Symbol → Parsed → Type 0
 BranchesBy text w v x r = ParsedBy branchesShape (λ f. branchesFrom text (inText text) f x) (steps 13 text x) text w v (x .at) r

@@ -33,7 +33,7 @@ abbrev pub byHeight : Bool → List ℕ → Tree → Judged
 byHeight true text e = refusal 5 0
 byHeight false text e = byNames (leftmostOf (unknownIn text e)) e
 
--- grammar; there are steps enough, so `spent` is no answer
+-- grammar; the steps never run out, as the code's promise over every text shows, so the last line is there for the definition's sake
 abbrev pub byGrammar : Result Symbol Tree → List ℕ → Judged
 byGrammar (part e x) text = byHeight (ltb 64 (heightOf e)) text e
 byGrammar (refused x) text = refusal 4 (x .at)
@@ -59,11 +59,11 @@ abbrev pub answered : Judged → Judgement
 answered (fine e) = Fine (place e)
 answered (refusal n p) = Refused n p
 
--- "10 .. at 0", before anything else, where there are fewer slots than bytes
+-- The slots are work room: where there are fewer than bytes, 10 at 0, before anything else.
 abbrev pub answerOf : ℕ → List ℕ → Judgement
 answerOf slots text = cond (ltb slots (length text)) (Refused 10 0) (answered (judgedOf text))
 
--- the slots beside an expression, which hold its tree, and zeros after a refusal
+-- the slots beside an expression, which hold its tree for whoever asked; after a refusal there is nothing to hold, and they are zero
 abbrev pub kept : Judged → List ℕ → List ℕ
 kept (fine e) w = store w e
 kept (refusal n p) w = replicate (length w) 0

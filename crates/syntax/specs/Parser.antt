@@ -7,7 +7,7 @@ use Prim.Native.Nat.{ℕ, zero, suc, _+_, _*_}
 use lib.ListN.{length}
 use Rattle.tree.specs.Tree.{Tree, literal, unary, binary, conditional, bare, call, pick, Arguments, last, next}
 use Rattle.tree.specs.Tree as tree
-use Rattle.syntax.specs.Symbol.{question, colon, openRound, closeRound, openSquare, closeSquare, comma, dot, word, end, symbolAt, is, isLiteral, formOf, isIndex, indexOf, isWord, isPrefix, rowOf, rows, inRow, functionOf, memberOf}
+use Rattle.syntax.specs.Symbol.{question, colon, openRound, closeRound, openSquare, closeSquare, comma, dot, word, end, symbolAt, is, isLiteral, formOf, isIndex, indexOf, isWord, isPrefix, precedenceOf, levels, hasPrecedence, functionOf, memberOf}
 use Rattle.syntax.specs.Symbol as symbol
 use Rattle.syntax.specs.declared.symbol.Symbol.{Symbol}
 
@@ -71,24 +71,24 @@ chosen p c (branches q a b) = conditional p q c a b
 module _ (text : List ℕ) {S : Type 0} (following : S → Option (Symbol × S)) where
   unfoldable mutual
     -- "a conditional nests to its right and its middle is a whole expression"
-    pub choiceFrom : ℕ → S → Result S Tree
-    choiceFrom zero = nothing
-    choiceFrom (suc f) = andThen (levelFrom f rows) (λ c. ask following (is question) (λ x. andThen (branchesFrom f) (λ b. part (chosen (x .at) c b))) (part c))
+    pub expressionFrom : ℕ → S → Result S Tree
+    expressionFrom zero = nothing
+    expressionFrom (suc f) = andThen (levelFrom f levels) (λ c. ask following (is question) (λ x. andThen (branchesFrom f) (λ b. part (chosen (x .at) c b))) (part c))
 
     pub branchesFrom : ℕ → S → Result S Branches
     branchesFrom zero = nothing
-    branchesFrom (suc f) = andThen (choiceFrom f) (λ a. expect following (is colon) (λ x. andThen (choiceFrom f) (λ b. part (branches (x .at) a b))))
+    branchesFrom (suc f) = andThen (expressionFrom f) (λ a. expect following (is colon) (λ x. andThen (expressionFrom f) (λ b. part (branches (x .at) a b))))
 
-    -- binary operators of the rows 1 to k: "Binary operators group to the left"
+    -- binary operators of the levels 1 to k: "Binary operators group to the left"
     pub levelFrom : ℕ → ℕ → S → Result S Tree
     levelFrom zero k = nothing
     levelFrom (suc f) zero = unaryFrom f
     levelFrom (suc f) (suc k) = andThen (levelFrom f k) (λ e. tailFrom f k e)
 
-    -- what follows an operand of the row k + 1
+    -- the operators of the level k + 1 that follow an operand
     pub tailFrom : ℕ → ℕ → Tree → S → Result S Tree
     tailFrom zero k e = nothing
-    tailFrom (suc f) k e = ask following (inRow (suc k)) (λ x. andThen (levelFrom f k) (λ d. tailFrom f k (binary (x .at) (x .number) e d))) (part e)
+    tailFrom (suc f) k e = ask following (hasPrecedence (suc k)) (λ x. andThen (levelFrom f k) (λ d. tailFrom f k (binary (x .at) (x .number) e d))) (part e)
 
     pub unaryFrom : ℕ → S → Result S Tree
     unaryFrom zero = nothing
@@ -112,7 +112,7 @@ module _ (text : List ℕ) {S : Type 0} (following : S → Option (Symbol × S))
     primaryFrom (suc f) =
         ask following isLiteral (λ x. part (literal (x .at) (formOf x)))
         (ask following (is symbol.variable) (λ x. part (tree.variable (x .at) 0))
-        (ask following (is openRound) (λ x. andThen (choiceFrom f) (closed following))
+        (ask following (is openRound) (λ x. andThen (expressionFrom f) (closed following))
         (ask following (is word) (λ x. callFrom f x) refused)))
 
     -- the arguments of the word x
@@ -125,10 +125,10 @@ module _ (text : List ℕ) {S : Type 0} (following : S → Option (Symbol × S))
 
     pub argumentsFrom : ℕ → S → Result S Arguments
     argumentsFrom zero = nothing
-    argumentsFrom (suc f) = andThen (choiceFrom f) (λ e. ask following (is comma) (λ x. andThen (argumentsFrom f) (λ xs. part (next e (x .at) xs))) (part (last e)))
+    argumentsFrom (suc f) = andThen (expressionFrom f) (λ e. ask following (is comma) (λ x. andThen (argumentsFrom f) (λ xs. part (next e (x .at) xs))) (part (last e)))
 
   abbrev pub wholeFrom : ℕ → S → Result S Tree
-  wholeFrom f = andThen (choiceFrom f) (atEnd following)
+  wholeFrom f = andThen (expressionFrom f) (atEnd following)
 
 -- ---- the tree of a text
 
@@ -146,5 +146,5 @@ stepsFor text = length text * 32 + 32
 
 -- The tree of a text, or the symbol at which it is refused with 4.
 unfoldable pub parseOf : List ℕ → Result Symbol Tree
-unfolding symbolAt rowOf andThen ask atEnd choiceFrom
+unfolding symbolAt precedenceOf andThen ask atEnd expressionFrom
 parseOf text = wholeFrom text (inText text) (stepsFor text) (symbolAt text 0)

@@ -98,9 +98,9 @@ isWord x = leb 28 (x .number) && leb (x .number) word
 abbrev pub isPrefix : Symbol → Bool
 isPrefix x = (eqb (x .number) 10 || eqb (x .number) 11) || eqb (x .number) 15
 
--- "Precedence, lowest first: `? :`, `||`, `&&`, equality, order, `+ -`, `* / %`": the rows of binary operators, from the one that binds most, and 0 for what is none
-unfoldable pub rowOf : ℕ → ℕ
-rowOf n =
+-- "Precedence, lowest first: `? :`, `||`, `&&`, equality, order, `+ -`, `* / %`": the levels of binary operators, from the one that binds most, and 0 for what is none
+unfoldable pub precedenceOf : ℕ → ℕ
+precedenceOf n =
     cond (leb 12 n && leb n 14) 1
     (cond (leb 10 n && leb n 11) 2
     (cond (leb 6 n && leb n 9) 3
@@ -108,11 +108,12 @@ rowOf n =
     (cond (eqb n 3) 5
     (cond (eqb n 2) 6 0)))))
 
-abbrev pub rows : ℕ
-rows = 6
+-- how many levels there are
+abbrev pub levels : ℕ
+levels = 6
 
-abbrev pub inRow : ℕ → Symbol → Bool
-inRow k x = eqb (rowOf (x .number)) k
+abbrev pub hasPrecedence : ℕ → Symbol → Bool
+hasPrecedence k x = eqb (precedenceOf (x .number)) k
 
 -- ---- names
 

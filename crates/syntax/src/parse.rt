@@ -1,7 +1,7 @@
 // The levels of the grammar, which call each other in a cycle while the text left to read falls. Each writes the tree that it reads into the slots.
 ghost use mathlib.Core.Path.{_≡_};
 ghost use Prim.Native.Nat.{_≤_, _<_};
-ghost use Rattle.syntax.specs.Inner.{Sound, Goes, closedOf, memberPickOf, indexPickOf, pickingOf, ChoiceBy, BranchesBy, LevelBy, TailBy, UnaryBy, PostfixBy, PicksBy, PrimaryBy, CallBy, ArgumentsBy, WholeBy};
+ghost use Rattle.syntax.specs.Inner.{Sound, Goes, closedOf, memberPickOf, indexPickOf, pickingOf, ExpressionBy, BranchesBy, LevelBy, TailBy, UnaryBy, PostfixBy, PicksBy, PrimaryBy, CallBy, ArgumentsBy, WholeBy};
 use crate::symbol::END;
 use crate::symbol::Symbol;
 use crate::symbol::VARIABLE;
@@ -15,7 +15,7 @@ use crate::symbol::is_literal;
 use crate::symbol::is_prefix;
 use crate::symbol::is_word;
 use crate::symbol::member;
-use crate::symbol::row;
+use crate::symbol::precedence;
 use crate::symbol::symbol_at;
 use lexer::punctuator::CLOSE_ROUND;
 use lexer::punctuator::CLOSE_SQUARE;
@@ -40,14 +40,14 @@ enum Picking {
     Nothing,
 }
 
-const ROWS: usize = 6;
+const LEVELS: usize = 6;
 
 // A whole expression: a conditional, or what stands before its `?`.
-fn choice(text: &[u8], slots: &mut [u16], x: Symbol) -> Parsed
+fn expression(text: &[u8], slots: &mut [u16], x: Symbol) -> Parsed
     requires { ⌜ Sound (now text) x ⌝ }
-    ensures { λ r. ⌜ ChoiceBy (now (text .entry)) (now (slots .entry)) (now (slots .exit)) x r ⌝ }
+    ensures { λ r. ⌜ ExpressionBy (now (text .entry)) (now (slots .entry)) (now (slots .exit)) x r ⌝ }
 {
-    match level(text, slots, ROWS, x) {
+    match level(text, slots, LEVELS, x) {
         Parsed::Tree { root, next } => {
             if next.number != QUESTION {
                 return Parsed::Tree { root, next };
@@ -75,12 +75,12 @@ fn branches(text: &[u8], slots: &mut [u16], x: Symbol) -> Parsed
     requires { ⌜ Sound (now text) x ⌝ }
     ensures { λ r. ⌜ BranchesBy (now (text .entry)) (now (slots .entry)) (now (slots .exit)) x r ⌝ }
 {
-    match choice(text, slots, x) {
+    match expression(text, slots, x) {
         Parsed::Tree { root, next } => {
             if next.number != COLON {
                 return Parsed::Bad(next);
             }
-            match choice(text, slots, after(text, next)) {
+            match expression(text, slots, after(text, next)) {
                 Parsed::Tree {
                     root: second,
                     next: last,
@@ -98,7 +98,7 @@ fn branches(text: &[u8], slots: &mut [u16], x: Symbol) -> Parsed
     }
 }
 
-// Binary operators of the first k rows; with none of them, a unary expression.
+// Binary operators of the first k levels; with none of them, a unary expression.
 fn level(text: &[u8], slots: &mut [u16], k: usize, x: Symbol) -> Parsed
     requires { ⌜ Sound (now text) x × (k ≤ 6) ⌝ }
     ensures { λ r. ⌜ LevelBy k (now (text .entry)) (now (slots .entry)) (now (slots .exit)) x r ⌝ }
@@ -112,12 +112,12 @@ fn level(text: &[u8], slots: &mut [u16], k: usize, x: Symbol) -> Parsed
     }
 }
 
-// What follows an operand of the row k + 1, whose tree has its root at a place.
+// What follows an operand of the level k + 1, whose tree has its root at a place.
 fn tail(text: &[u8], slots: &mut [u16], k: usize, root: usize, x: Symbol) -> Parsed
     requires { ⌜ Goes (now text) root x × (k < 6) ⌝ }
     ensures { λ r. ⌜ TailBy k (now (text .entry)) (now (slots .entry)) (now (slots .exit)) root x r ⌝ }
 {
-    if row(x.number) as usize != k + 1 {
+    if precedence(x.number) as usize != k + 1 {
         return Parsed::Tree { root, next: x };
     }
     match level(text, slots, k, after(text, x)) {
@@ -257,7 +257,7 @@ fn primary(text: &[u8], slots: &mut [u16], x: Symbol) -> Parsed
         };
     }
     if x.number == OPEN_ROUND {
-        return closed(text, choice(text, slots, after(text, x)));
+        return closed(text, expression(text, slots, after(text, x)));
     }
     if x.number == WORD {
         return call(text, slots, x);
@@ -297,7 +297,7 @@ fn arguments(text: &[u8], slots: &mut [u16], x: Symbol) -> Parsed
     requires { ⌜ Sound (now text) x ⌝ }
     ensures { λ r. ⌜ ArgumentsBy (now (text .entry)) (now (slots .entry)) (now (slots .exit)) x r ⌝ }
 {
-    match choice(text, slots, x) {
+    match expression(text, slots, x) {
         Parsed::Tree { root, next } => {
             if next.number != COMMA {
                 return Parsed::Tree { root, next };
@@ -324,7 +324,7 @@ fn arguments(text: &[u8], slots: &mut [u16], x: Symbol) -> Parsed
 pub(crate) fn parse(text: &[u8], slots: &mut [u16]) -> Parsed
     ensures { λ r. ⌜ WholeBy (now (text .entry)) (now (slots .entry)) (now (slots .exit)) r ⌝ }
 {
-    match choice(text, slots, symbol_at(text, 0)) {
+    match expression(text, slots, symbol_at(text, 0)) {
         Parsed::Tree { root, next } => {
             if next.number != END {
                 return Parsed::Bad(next);

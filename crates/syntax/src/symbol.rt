@@ -3,7 +3,7 @@ ghost use mathlib.Core.Path.{_≡_};
 ghost use mathlib.Core.Bool.{cond, _&&_};
 ghost use Prim.Native.Nat.{_+_};
 ghost use lib.Dec.{eqb, ltb};
-ghost use Rattle.syntax.specs.Symbol.{numberOf, symbolAt, isLiteral, formOf, isIndex, indexOf, isWord, isPrefix, rowOf, functionOf, memberOf};
+ghost use Rattle.syntax.specs.Symbol.{numberOf, symbolAt, isLiteral, formOf, isIndex, indexOf, isWord, isPrefix, precedenceOf, functionOf, memberOf};
 ghost use Rattle.syntax.specs.Inner.{Sound, Follows};
 use lexer::punctuator::MINUS;
 use lexer::punctuator::NOT;
@@ -151,9 +151,9 @@ pub(crate) fn is_prefix(x: Symbol) -> bool
     ((x.number == PLUS) | (x.number == MINUS)) | (x.number == NOT)
 }
 
-// The row of a binary operator, from the one that binds most, and 0 for what is none.
-pub(crate) fn row(n: u8) -> u8
-    ensures { λ r. ⌜ r ≡ rowOf n ⌝ }
+// The level of a binary operator, from the one that binds most, and 0 for what is none.
+pub(crate) fn precedence(n: u8) -> u8
+    ensures { λ r. ⌜ r ≡ precedenceOf n ⌝ }
 {
     match n {
         12..=14 => 1,

@@ -1,15 +1,15 @@
 -- The levels of the grammar, path by path: what the callees gave, and the tests that were passed, give what the caller says.
 use mathlib.Core.Path.{_≡_, refl, ap, sym, subst}
 use mathlib.Core.List.{List}
-use mathlib.Core.Bool.{Bool, true, false, cond, _&&_, _||_, and-eq-true-iff, false≢true}
+use mathlib.Core.Bool.{Bool, true, false, cond, _&&_, _||_, false≢true}
 use Prim.Native.Nat.{ℕ, zero, suc, _+_, _<_, _≤_}
 use native.Mathlib.Omega.{arith}
 use lib.Dec.{eqb, ltb, leb}
 use lib.ListN.{length}
-use borrow.Author.Tests.{eq-eqb, ne-eqb, leb-true, eqb-true, ltb-true, ltb-false, le-leb, lt-leb}
+use borrow.Author.Tests.{eq-eqb, ne-eqb, eqb-true, ltb-true, ltb-false, le-leb, lt-leb}
 use Rattle.tree.specs.Tree.{Tree, literal, variable, unary, binary, bare, call, last, next}
 use Rattle.tree.specs.Slots.{Shape, between, root, lay, put, join, shapeOf, shapesOf, operatorTag, functionTag, variableTag, commaTag}
-use Rattle.syntax.specs.Symbol.{symbolAt, is, question, colon, comma, closeRound, end, isLiteral, formOf, isPrefix, rowOf, functionOf}
+use Rattle.syntax.specs.Symbol.{symbolAt, is, question, colon, comma, closeRound, end, isLiteral, formOf, isPrefix, precedenceOf, functionOf}
 use Rattle.syntax.specs.Parser.{
   Result,
   part,
@@ -21,7 +21,7 @@ use Rattle.syntax.specs.Parser.{
   branches,
   chosen,
   inText,
-  choiceFrom,
+  expressionFrom,
   branchesFrom,
   levelFrom,
   tailFrom,
@@ -42,7 +42,7 @@ use Rattle.syntax.specs.Inner.{
   ParsedBy,
   steps,
   branchesShape,
-  ChoiceBy,
+  ExpressionBy,
   BranchesBy,
   LevelBy,
   TailBy,
@@ -57,9 +57,9 @@ use Rattle.syntax.specs.Inner.{
 use Rattle.syntax.specs.declared.symbol.Symbol.{Symbol}
 use Rattle.syntax.specs.declared.parse.Parsed.{Parsed}
 use Rattle.syntax.specs.declared.parse.Parsed.the-variants as parsed
-use Rattle.syntax.proofs.Law.Symbols.{sound-at, later-at}
+use Rattle.syntax.proofs.Law.Symbols.{sound-at, later-at, in-range}
 use Rattle.syntax.proofs.Law.Steps.{Gives, given, then-part, then-bad, asks-yes, asks-no, after-that, at-once}
-use Rattle.syntax.proofs.Law.Parts.{ahead-tree, says-tree, says-bad, goes-on, stepped, ahead-wider, same, prefixed, paired}
+use Rattle.syntax.proofs.Law.Parts.{ahead-tree, says-tree, says-bad, goes-on, stepped, ahead-wider, same, with-part, paired}
 
 -- ---- an answer, by a step at a time
 
@@ -137,16 +137,16 @@ module _ (text : List ℕ) where
   pub chosen-shape : (p : ℕ) (c : Tree) (b : Branches) → shapeOf (chosen p c b) ≡ between p (operatorTag 0) (shapeOf c) (branchesShape b)
   chosen-shape p c (branches q a b) = refl
 
-  pub choices-step : (g : ℕ) → choiceFrom text (inText text) (suc g) ≡
+  pub conditionals-step : (g : ℕ) → expressionFrom text (inText text) (suc g) ≡
       andThen (levelFrom text (inText text) g 6) (λ a. ask (inText text) (is question) (λ y. andThen (branchesFrom text (inText text) g) (λ b. part (chosen (y .at) a b))) (part a))
-  unfolding choiceFrom
-  choices-step g = refl
+  unfolding expressionFrom
+  conditionals-step g = refl
 
-  abbrev pub choices : Pair shapeOf branchesShape shapeOf text
-  choices = record {
+  abbrev pub conditionals : Pair shapeOf branchesShape shapeOf text
+  conditionals = record {
     first = λ f. levelFrom text (inText text) f 6;
     second = branchesFrom text (inText text);
-    whole = choiceFrom text (inText text);
+    whole = expressionFrom text (inText text);
     none = part;
     node = chosen;
     mark = question;
@@ -154,7 +154,7 @@ module _ (text : List ℕ) where
     c₁ = 11;
     c₂ = 13;
     c = 12;
-    step = choices-step;
+    step = conditionals-step;
     shaped = chosen-shape;
     marked = omega arith;
     later₁ = omega arith;
@@ -162,14 +162,14 @@ module _ (text : List ℕ) where
   }
 
   pub pairs-step : (g : ℕ) → branchesFrom text (inText text) (suc g) ≡
-      andThen (choiceFrom text (inText text) g) (λ a. ask (inText text) (is colon) (λ y. andThen (choiceFrom text (inText text) g) (λ b. part (branches (y .at) a b))) (refused))
-  unfolding choiceFrom
+      andThen (expressionFrom text (inText text) g) (λ a. ask (inText text) (is colon) (λ y. andThen (expressionFrom text (inText text) g) (λ b. part (branches (y .at) a b))) (refused))
+  unfolding expressionFrom
   pairs-step g = refl
 
   abbrev pub pairs : Pair shapeOf shapeOf branchesShape text
   pairs = record {
-    first = choiceFrom text (inText text);
-    second = choiceFrom text (inText text);
+    first = expressionFrom text (inText text);
+    second = expressionFrom text (inText text);
     whole = branchesFrom text (inText text);
     none = λ a. refused;
     node = branches;
@@ -186,13 +186,13 @@ module _ (text : List ℕ) where
   }
 
   pub lists-step : (g : ℕ) → argumentsFrom text (inText text) (suc g) ≡
-      andThen (choiceFrom text (inText text) g) (λ a. ask (inText text) (is comma) (λ y. andThen (argumentsFrom text (inText text) g) (λ b. part (next a (y .at) b))) (part (last a)))
-  unfolding choiceFrom
+      andThen (expressionFrom text (inText text) g) (λ a. ask (inText text) (is comma) (λ y. andThen (argumentsFrom text (inText text) g) (λ b. part (next a (y .at) b))) (part (last a)))
+  unfolding expressionFrom
   lists-step g = refl
 
   abbrev pub lists : Pair shapeOf shapesOf shapesOf text
   lists = record {
-    first = choiceFrom text (inText text);
+    first = expressionFrom text (inText text);
     second = argumentsFrom text (inText text);
     whole = argumentsFrom text (inText text);
     none = λ e. part (last e);
@@ -211,17 +211,17 @@ module _ (text : List ℕ) where
 
 module _ {text w v : List ℕ} (x : Symbol) {r : Parsed} {at : ℕ} {y : Symbol} (e : r ≡ parsed.Tree at y) where
   -- what stands before no `?` is a whole expression
-  pub choice-none : LevelBy 6 text w v x r → (y .number ≡ question → ⊥) → ChoiceBy text w v x (parsed.Tree at y)
-  choice-none h q = builds (choiceFrom text (inText text)) x _ (omega arith) (ahead-tree h e) (λ g l.
+  pub expression-none : LevelBy 6 text w v x r → (y .number ≡ question → ⊥) → ExpressionBy text w v x (parsed.Tree at y)
+  expression-none h q = builds (expressionFrom text (inText text)) x _ (omega arith) (ahead-tree h e) (λ g l.
       let d = says-tree h e g (omega arith) in
-      record { tree = d .tree; is = alone (choices text) x h e q g l d .gives; rooted = d .rooted; wrote = d .wrote })
+      record { tree = d .tree; is = alone (conditionals text) x h e q g l d .gives; rooted = d .rooted; wrote = d .wrote })
 
   -- a first branch without its `:` is refused at what follows
-  pub branches-none : ChoiceBy text w v x r → (y .number ≡ colon → ⊥) → BranchesBy text w v x (parsed.Bad y)
+  pub branches-none : ExpressionBy text w v x r → (y .number ≡ colon → ⊥) → BranchesBy text w v x (parsed.Bad y)
   branches-none h q = refuses (branchesFrom text (inText text)) x _ (omega arith) (λ g l. alone (pairs text) x h e q g l (says-tree h e g (omega arith)))
 
   -- an argument without a comma after it is the last
-  pub arguments-last : ChoiceBy text w v x r → (y .number ≡ comma → ⊥) → ArgumentsBy text w v x (parsed.Tree at y)
+  pub arguments-last : ExpressionBy text w v x r → (y .number ≡ comma → ⊥) → ArgumentsBy text w v x (parsed.Tree at y)
   arguments-last h q = builds (argumentsFrom text (inText text)) x _ (omega arith) (ahead-tree h e) (λ g l.
       let d = says-tree h e g (omega arith) in
       record { tree = last (d .tree); is = alone (lists text) x h e q g l d .gives; rooted = d .rooted; wrote = d .wrote })
@@ -230,17 +230,17 @@ module _ {text w v : List ℕ} (x : Symbol) {r : Parsed} {at : ℕ} {y : Symbol}
 
 module _ {text w v : List ℕ} (k : ℕ) (x : Symbol) {r : Parsed} where
   pub level-unary : k ≡ 0 → UnaryBy text w v x r → LevelBy k text w v x r
-  unfolding choiceFrom
+  unfolding expressionFrom
   level-unary e h = subst (λ k. LevelBy k text w v x r) (sym e) (same (λ f. levelFrom text (inText text) f 0 x) _ (x .at) (omega arith) (omega arith) (λ g. refl) h)
 
--- a row is one more than the rows of its operands
+-- a level is one more than that of its operands
 module _ {text w v : List ℕ} (j : ℕ) (x : Symbol) {r : Parsed} (h : LevelBy j text w v x r) where
   level-bad : {y : Symbol} → r ≡ parsed.Bad y → LevelBy (suc j) text w v x (parsed.Bad y)
-  unfolding choiceFrom
+  unfolding expressionFrom
   level-bad e = refuses (λ f. levelFrom text (inText text) f (suc j)) x _ (omega arith) (λ g l. then-bad _ (given (says-bad h e g (omega arith))))
 
   level-goes : {at : ℕ} {y : Symbol} {u : List ℕ} {r′ : Parsed} → r ≡ parsed.Tree at y → TailBy j text v u at y r′ → LevelBy (suc j) text w u x r′
-  unfolding choiceFrom andThen
+  unfolding expressionFrom andThen
   level-goes {u = u} {r′ = r′} e t =
       let a = ahead-tree h e in
       record {
@@ -250,16 +250,16 @@ module _ {text w v : List ℕ} (j : ℕ) (x : Symbol) {r : Parsed} (h : LevelBy 
       }
 
 module _ {text w v : List ℕ} (k j : ℕ) (x : Symbol) {r : Parsed} (e : k ≡ suc j) (h : LevelBy j text w v x r) where
-  pub row-bad : {y : Symbol} → r ≡ parsed.Bad y → LevelBy k text w v x (parsed.Bad y)
-  row-bad {y} i = subst (λ k. LevelBy k text w v x (parsed.Bad y)) (sym e) (level-bad j x h i)
+  pub binary-bad : {y : Symbol} → r ≡ parsed.Bad y → LevelBy k text w v x (parsed.Bad y)
+  binary-bad {y} i = subst (λ k. LevelBy k text w v x (parsed.Bad y)) (sym e) (level-bad j x h i)
 
-  pub row-goes : {at : ℕ} {y : Symbol} {u : List ℕ} {r′ : Parsed} → r ≡ parsed.Tree at y → TailBy j text v u at y r′ → LevelBy k text w u x r′
-  row-goes {u = u} {r′ = r′} i t = subst (λ k. LevelBy k text w u x r′) (sym e) (level-goes j x h i t)
+  pub binary-goes : {at : ℕ} {y : Symbol} {u : List ℕ} {r′ : Parsed} → r ≡ parsed.Tree at y → TailBy j text v u at y r′ → LevelBy k text w u x r′
+  binary-goes {u = u} {r′ = r′} i t = subst (λ k. LevelBy k text w u x r′) (sym e) (level-goes j x h i t)
 
--- only binary operators have a row
-row-none : (n : ℕ) → 14 < n → rowOf n ≡ 0
-unfolding rowOf
-row-none n h = simp (
+-- only binary operators have a level
+operator-none : (n : ℕ) → 14 < n → precedenceOf n ≡ 0
+unfolding precedenceOf
+operator-none n h = simp (
   le-leb 12 n (omega arith),
   lt-leb n 14 (omega arith),
   le-leb 10 n (omega arith),
@@ -272,45 +272,45 @@ row-none n h = simp (
   ne-eqb n 2 (omega arith),
 )
 
-pub row-operator : (n k : ℕ) → rowOf n ≡ suc k → (1 < n) × (n < 15)
-unfolding rowOf
-row-operator zero k e = absurd (omega arith)
-row-operator (suc zero) k e = absurd (omega arith)
-row-operator (suc (suc n)) k e = (omega arith, below (ltb (suc (suc n)) 15) refl)
+pub operator-number : (n k : ℕ) → precedenceOf n ≡ suc k → (1 < n) × (n < 15)
+unfolding precedenceOf
+operator-number zero k e = absurd (omega arith)
+operator-number (suc zero) k e = absurd (omega arith)
+operator-number (suc (suc n)) k e = (omega arith, below (ltb (suc (suc n)) 15) refl)
   where
     below : (b : Bool) → ltb (suc (suc n)) 15 ≡ b → suc (suc n) < 15
     below true h = ltb-true (suc (suc n)) 15 h
-    below false h = absurd (omega (arith, row-none (suc (suc n)) (ltb-false (suc (suc n)) 15 h)))
+    below false h = absurd (omega (arith, operator-none (suc (suc n)) (ltb-false (suc (suc n)) 15 h)))
 
 module _ {text w : List ℕ} (k : ℕ) {at : ℕ} (x : Symbol) (s : Goes text at x) where
-  -- no operator of the row follows
-  pub tail-ends : (rowOf (x .number) ≡ suc k → ⊥) → TailBy k text w w at x (parsed.Tree at x)
-  unfolding choiceFrom
+  -- no operator of the level follows
+  pub tail-ends : (precedenceOf (x .number) ≡ suc k → ⊥) → TailBy k text w w at x (parsed.Tree at x)
+  unfolding expressionFrom
   tail-ends q = record {
     ahead = (omega arith, s .before, s .sound);
     says = stepped (λ f. (u : List ℕ) (e : Tree) → w ≡ lay u (shapeOf e) → at ≡ root (shapeOf e) → Good shapeOf u w at x (tailFrom text (inText text) f k e x)) (omega arith) (λ g l u e wrote rooted.
-        record { tree = e; is = asks-no _ _ _ _ (ne-eqb (rowOf (x .number)) (suc k) q) at-once .gives; rooted = rooted; wrote = wrote });
+        record { tree = e; is = asks-no _ _ _ _ (ne-eqb (precedenceOf (x .number)) (suc k) q) at-once .gives; rooted = rooted; wrote = wrote });
   }
 
-  module _ (q : rowOf (x .number) ≡ suc k) {y : Symbol} (f : Follows text x y) {v : List ℕ} {r : Parsed} (small : k < 6) (h : LevelBy k text w v y r) where
+  module _ (q : precedenceOf (x .number) ≡ suc k) {y : Symbol} (f : Follows text x y) {v : List ℕ} {r : Parsed} (small : k < 6) (h : LevelBy k text w v y r) where
     pub tail-bad : {b : Symbol} → r ≡ parsed.Bad b → TailBy k text w v at x (parsed.Bad b)
-    unfolding choiceFrom
+    unfolding expressionFrom
     tail-bad {b} e =
-        let o = row-operator (x .number) k q in
+        let o = operator-number (x .number) k q in
         let m = s .sound .moves (omega arith) in
         record {
           ahead = tt;
           says = stepped (λ f. (u : List ℕ) (e : Tree) → w ≡ lay u (shapeOf e) → at ≡ root (shapeOf e) →
               tailFrom text (inText text) f k e x ≡ refused b) (omega arith) (λ g l u e′ wrote rooted.
-              asks-yes _ _ _ _ (eq-eqb (rowOf (x .number)) (suc k) q) (omega arith) (then-bad _ (after-that f (given
+              asks-yes _ _ _ _ (eq-eqb (precedenceOf (x .number)) (suc k) q) (omega arith) (then-bad _ (after-that f (given
               (says-bad h e g (omega (arith, f .later, f .sound .order, f .sound .inside)))))) .gives);
         }
 
     pub tail-goes : {at′ : ℕ} {z : Symbol} {u v′ : List ℕ} {r′ : Parsed} → r ≡ parsed.Tree at′ z → u ≡ join v (x .at) (operatorTag (x .number)) at at′ →
         TailBy k text u v′ (x .at) z r′ → TailBy k text w v′ at x r′
-    unfolding choiceFrom
+    unfolding expressionFrom
     tail-goes {at′} {z} {u} {v′} {r′} e wrote t =
-        let o = row-operator (x .number) k q in
+        let o = operator-number (x .number) k q in
         let m = s .sound .moves (omega arith) in
         let a = ahead-tree h e in
         record {
@@ -321,7 +321,7 @@ module _ {text w : List ℕ} (k : ℕ) {at : ℕ} (x : Symbol) (s : Goes text at
               let right = says-tree h e g (omega (arith, f .later, f .sound .order, f .sound .inside)) in
               let node : Tree → Tree → Tree = binary (x .at) (x .number) in
               let d = paired shapeOf node (x .at) (operatorTag (x .number)) (λ a b. refl) left right wrote refl in
-              let step = asks-yes _ _ _ _ (eq-eqb (rowOf (x .number)) (suc k) q) (omega arith) (then-part _ (after-that f (given (right .is))) at-once) .gives in
+              let step = asks-yes _ _ _ _ (eq-eqb (precedenceOf (x .number)) (suc k) q) (omega arith) (then-part _ (after-that f (given (right .is))) at-once) .gives in
               subst (λ a. Agrees shapeOf w₀ v′ r′ a) (sym step)
               (goes-on (λ f. tailFrom text (inText text) f k) _ t g (omega (arith, a .2 .order, a .2 .inside, f .later, f .sound .order)) d));
         }
@@ -339,12 +339,12 @@ prefix-operator x e = one-of (x .number) (eqb (x .number) 10) (eqb (x .number) 1
 
 module _ {text w v : List ℕ} (x : Symbol) {r : Parsed} where
   pub unary-none : isPrefix x ≡ false → PostfixBy text w v x r → UnaryBy text w v x r
-  unfolding choiceFrom
+  unfolding expressionFrom
   unary-none q h = same (λ f. unaryFrom text (inText text) f x) _ (x .at) (omega arith) (omega arith) (λ g. asks-no _ _ _ _ q at-once .gives) h
 
   module _ (q : isPrefix x ≡ true) (s : Sound text x) {y : Symbol} (f : Follows text x y) (h : UnaryBy text w v y r) where
     pub unary-bad : {b : Symbol} → r ≡ parsed.Bad b → UnaryBy text w v x (parsed.Bad b)
-    unfolding choiceFrom
+    unfolding expressionFrom
     unary-bad e =
         let o = prefix-operator x q in
         let m = s .moves (omega arith) in
@@ -352,23 +352,23 @@ module _ {text w v : List ℕ} (x : Symbol) {r : Parsed} where
         asks-yes _ _ _ _ q (omega arith) (then-bad _ (after-that f (given (says-bad h e g (omega (arith, f .later, f .sound .order, f .sound .inside)))))))
 
     pub unary-goes : {at : ℕ} {z : Symbol} {u : List ℕ} → r ≡ parsed.Tree at z → u ≡ put v (x .at) (x .number) at → UnaryBy text w u x (parsed.Tree (x .at) z)
-    unfolding choiceFrom
+    unfolding expressionFrom lay
     unary-goes e wrote =
         let o = prefix-operator x q in
         let m = s .moves (omega arith) in
         let a = ahead-tree h e in
         builds (unaryFrom text (inText text)) x _ (omega arith) (omega arith, omega (arith, a, f .later), a .2) (λ g l.
         let d = says-tree h e g (omega (arith, f .later, f .sound .order, f .sound .inside)) in
-        prefixed shapeOf (unary (x .at) (x .number)) (x .at) (x .number) (λ a. refl) d wrote
+        with-part shapeOf (unary (x .at) (x .number)) (x .at) (x .number) (λ a. refl) (λ w a. refl) d wrote
         (asks-yes _ _ _ _ q (omega arith) (then-part _ (after-that f (given (d .is))) at-once) .gives))
 
 module _ {text w v : List ℕ} (x : Symbol) {r : Parsed} (h : PrimaryBy text w v x r) where
   pub postfix-bad : {b : Symbol} → r ≡ parsed.Bad b → PostfixBy text w v x (parsed.Bad b)
-  unfolding choiceFrom
+  unfolding expressionFrom
   postfix-bad e = refuses (postfixFrom text (inText text)) x _ (omega arith) (λ g l. then-bad _ (given (says-bad h e g (omega arith))))
 
   pub postfix-goes : {at : ℕ} {y : Symbol} {u : List ℕ} {r′ : Parsed} → r ≡ parsed.Tree at y → PicksBy text v u at y r′ → PostfixBy text w u x r′
-  unfolding choiceFrom andThen
+  unfolding expressionFrom andThen
   postfix-goes {u = u} {r′ = r′} e t =
       let a = ahead-tree h e in
       record {
@@ -408,9 +408,9 @@ module _ {A : Type 0} {shape : A → Shape} (m : ℕ → Symbol → Result Symbo
 
 module _ {text w v : List ℕ} (x : Symbol) (s : Sound text x) where
   pub primary-literal : {n : ℕ} {y : Symbol} → isLiteral x ≡ true → n ≡ formOf x → v ≡ put w (x .at) n 0 → Follows text x y → PrimaryBy text w v x (parsed.Tree (x .at) y)
-  unfolding choiceFrom lay
+  unfolding expressionFrom lay
   primary-literal q e wrote f =
-      let most = leb-true (x .number) 33 (and-eq-true-iff (leb 22 (x .number)) (leb (x .number) 33) .0 q .1) in
+      let most = in-range 22 33 (x .number) q in
       let m = s .moves (omega arith) in
       builds (primaryFrom text (inText text)) x _ (omega arith) (omega arith, omega (arith, f .later), f .sound) (λ g l.
       record {
@@ -421,7 +421,7 @@ module _ {text w v : List ℕ} (x : Symbol) (s : Sound text x) where
       })
 
   pub primary-variable : {y : Symbol} → x .number ≡ 35 → v ≡ put w (x .at) variableTag 0 → Follows text x y → PrimaryBy text w v x (parsed.Tree (x .at) y)
-  unfolding choiceFrom lay
+  unfolding expressionFrom lay
   primary-variable q wrote f =
       let m = s .long q in
       builds (primaryFrom text (inText text)) x _ (omega arith) (omega arith, omega (arith, f .later), f .sound) (λ g l.
@@ -432,23 +432,23 @@ module _ {text w v : List ℕ} (x : Symbol) (s : Sound text x) where
         wrote = wrote;
       })
 
-  pub primary-brackets : {y : Symbol} {r r′ : Parsed} → x .number ≡ 16 → Follows text x y → ChoiceBy text w v y r → r′ ≡ closedOf text r → PrimaryBy text w v x r′
-  unfolding choiceFrom
+  pub primary-brackets : {y : Symbol} {r r′ : Parsed} → x .number ≡ 16 → Follows text x y → ExpressionBy text w v y r → r′ ≡ closedOf text r → PrimaryBy text w v x r′
+  unfolding expressionFrom
   primary-brackets {y} {r} q f h e =
       let m = s .moves (omega arith) in
       subst (λ r. PrimaryBy text w v x r) (sym e)
       (same (λ f. primaryFrom text (inText text) f x) _ (x .at) (omega (arith, f .later)) (omega (arith, f .later, f .sound .order, f .sound .inside))
       (λ g. asks-no _ _ _ _ (ap (λ n. leb 22 n && leb n 33) q) (asks-no _ _ _ _ (ap (λ n. eqb n 35) q) (asks-yes _ _ _ _ (eq-eqb (x .number) 16 q) (omega arith) (after-that f at-once))) .gives)
-      (closes (choiceFrom text (inText text)) y r h))
+      (closes (expressionFrom text (inText text)) y r h))
 
   pub primary-call : {r : Parsed} → x .number ≡ 34 → CallBy text w v x r → PrimaryBy text w v x r
-  unfolding choiceFrom
+  unfolding expressionFrom
   primary-call q h = same (λ f. primaryFrom text (inText text) f x) _ (x .at) (omega arith) (omega arith)
       (λ g. asks-no _ _ _ _ (ap (λ n. leb 22 n && leb n 33) q) (asks-no _ _ _ _ (ap (λ n. eqb n 35) q) (asks-no _ _ _ _ (ap (λ n. eqb n 16) q) (asks-yes _ _ _ _ (eq-eqb (x .number) 34 q) (omega arith) at-once))) .gives)
       h
 
   pub primary-none : isLiteral x ≡ false → (x .number ≡ 35 → ⊥) → (x .number ≡ 16 → ⊥) → (x .number ≡ 34 → ⊥) → PrimaryBy text w v x (parsed.Bad x)
-  unfolding choiceFrom
+  unfolding expressionFrom
   primary-none a b c d = refuses (primaryFrom text (inText text)) x _ (omega arith) (λ g l.
       asks-no _ _ _ _ a (asks-no _ _ _ _ (ne-eqb (x .number) 35 b) (asks-no _ _ _ _ (ne-eqb (x .number) 16 c) (asks-no _ _ _ _ (ne-eqb (x .number) 34 d) at-once))))
 
@@ -456,12 +456,12 @@ module _ {text w v : List ℕ} (x : Symbol) (s : Sound text x) where
 
 module _ {text w v : List ℕ} (x : Symbol) (s : Sound text x) (q : x .number ≡ 34) {y : Symbol} (f : Follows text x y) where
   pub call-none : (y .number ≡ 16 → ⊥) → CallBy text w v x (parsed.Bad y)
-  unfolding choiceFrom
+  unfolding expressionFrom
   call-none n = refuses (λ f. callFrom text (inText text) f x) (symbolAt text (x .end)) _ (omega arith) (λ g l. after-that f (asks-no _ _ _ _ (ne-eqb (y .number) 16 n) at-once))
 
   module _ (o : y .number ≡ 16) {z : Symbol} (i : Follows text y z) where
     pub call-bare : {n : ℕ} {t : Symbol} → n ≡ functionOf text x → z .number ≡ 17 → v ≡ put w (x .at) (functionTag n) 0 → Follows text z t → CallBy text w v x (parsed.Tree (x .at) t)
-    unfolding choiceFrom lay
+    unfolding expressionFrom lay
     call-bare {n} {t} e c wrote j =
         let m = s .moves (omega arith) in
         let m₁ = f .sound .moves (omega arith) in
@@ -487,17 +487,17 @@ module _ {text w v : List ℕ} (x : Symbol) (s : Sound text x) (q : x .number �
           omega (arith, m, m₁, f .later, i .later, i .sound .order, i .sound .inside)
 
       pub call-bad : {b : Symbol} → r′ ≡ parsed.Bad b → CallBy text w v x (parsed.Bad b)
-      unfolding choiceFrom
+      unfolding expressionFrom
       call-bad d = refuses (λ f. callFrom text (inText text) f x) (symbolAt text (x .end)) _ (omega arith) (λ g l.
           after-that f (asks-yes _ _ _ _ (eq-eqb (y .number) 16 o) (omega arith) (after-that i (asks-no _ _ _ _ (ne-eqb (z .number) 17 n)
           (then-bad _ (given (says-bad inside d g (omega (arith, further)))))))))
 
       pub call-goes : {k at : ℕ} {t : Symbol} {u : List ℕ} → k ≡ functionOf text x → r′ ≡ parsed.Tree at t → u ≡ put v (x .at) (functionTag k) at → CallBy text w u x (parsed.Tree (x .at) t)
-      unfolding choiceFrom
+      unfolding expressionFrom lay
       call-goes {at = at} {u = u} k d wrote =
           let a = ahead-tree inside d in
           builds (λ f. callFrom text (inText text) f x) (symbolAt text (x .end)) _ (omega arith) (omega arith, omega (arith, further, a), a .2) (λ g l.
           let c = says-tree inside d g (omega (arith, further)) in
-          prefixed shapeOf (call (x .at) (functionOf text x)) (x .at) (functionTag (functionOf text x)) (λ a. refl) c (subst (λ n. u ≡ put v (x .at) (functionTag n) at) k wrote)
+          with-part shapeOf (call (x .at) (functionOf text x)) (x .at) (functionTag (functionOf text x)) (λ a. refl) (λ w a. refl) c (subst (λ n. u ≡ put v (x .at) (functionTag n) at) k wrote)
           (after-that f (asks-yes _ _ _ _ (eq-eqb (y .number) 16 o) (omega arith) (after-that i (asks-no _ _ _ _ (ne-eqb (z .number) 17 n)
           (then-part _ (given (c .is)) at-once)))) .gives))

@@ -1,10 +1,10 @@
 -- A part of an expression from its own parts: the tree, and what has been written.
-use mathlib.Core.Path.{_≡_, refl, ap, sym, subst}
+use mathlib.Core.Path.{_≡_, refl, ap, sym, subst, _∙_}
 use mathlib.Core.List.{List}
 use Prim.Native.Nat.{ℕ, zero, suc, _<_, _≤_}
 use native.Mathlib.Omega.{arith}
 use Rattle.tree.specs.Tree.{Tree}
-use Rattle.tree.specs.Slots.{Shape, before, between, after, root, lay, put, join, shapeOf}
+use Rattle.tree.specs.Slots.{Shape, between, root, lay, put, join, shapeOf}
 use Rattle.syntax.specs.Parser.{Result, part, refused, onPart}
 use Rattle.syntax.specs.Inner.{Sound, Good, Agrees, Ahead, ParsedBy, TailedBy}
 use Rattle.syntax.specs.declared.symbol.Symbol.{Symbol}
@@ -49,23 +49,13 @@ module _ {A : Type 0} {shape : A → Shape} {spec : ℕ → Result Symbol A} {fu
 -- ---- a node and its parts
 
 module _ {A C : Type 0} {shapeA : A → Shape} (shape : C → Shape) where
-  -- a node before its part
-  pub prefixed : (node : A → C) (p tag : ℕ) → ((a : A) → shape (node a) ≡ before p tag (shapeA a)) →
-      {w v u : List ℕ} {at : ℕ} {next : Symbol} {m : Result Symbol A} {a : Result Symbol C} (d : Good shapeA w v at next m) →
+  -- a node with one part, before it or after it
+  pub with-part : (node : A → C) (p tag : ℕ) → ((a : A) → root (shape (node a)) ≡ p) →
+      ((w : List ℕ) (a : A) → lay w (shape (node a)) ≡ put (lay w (shapeA a)) p tag (root (shapeA a))) →
+      {w v u : List ℕ} {at : ℕ} {next y : Symbol} {m : Result Symbol A} {a : Result Symbol C} (d : Good shapeA w v at y m) →
       u ≡ put v p tag at → a ≡ part (node (d .tree)) next → Good shape w u p next a
-  unfolding lay
-  prefixed node p tag is-shape {w} {v} {u} d wrote is =
-      let s = is-shape (d .tree) in
-      record { tree = node (d .tree); is = is; rooted = sym (ap root s); wrote = subst (λ z. u ≡ lay w z) (sym s) (rw (wrote, d .wrote, d .rooted) refl) }
-
-  -- a node after its part
-  pub postfixed : (node : A → C) (p tag : ℕ) {y : Symbol} → ((a : A) → shape (node a) ≡ after p tag (shapeA a)) →
-      {w v u : List ℕ} {at : ℕ} {next : Symbol} {m : Result Symbol A} {a : Result Symbol C} (d : Good shapeA w v at y m) →
-      u ≡ put v p tag at → a ≡ part (node (d .tree)) next → Good shape w u p next a
-  unfolding lay
-  postfixed node p tag is-shape {w} {v} {u} d wrote is =
-      let s = is-shape (d .tree) in
-      record { tree = node (d .tree); is = is; rooted = sym (ap root s); wrote = subst (λ z. u ≡ lay w z) (sym s) (rw (wrote, d .wrote, d .rooted) refl) }
+  with-part node p tag is-root is-laid {w} d wrote is =
+      record { tree = node (d .tree); is = is; rooted = sym (is-root (d .tree)); wrote = wrote ∙ rw (d .wrote, d .rooted) (sym (is-laid w (d .tree))) }
 
   -- a node between two parts
   module _ {B : Type 0} {shapeB : B → Shape} where

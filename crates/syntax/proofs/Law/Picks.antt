@@ -1,11 +1,9 @@
 -- The picks of a part, path by path.
 use mathlib.Core.Path.{_≡_, refl, sym, subst}
 use mathlib.Core.List.{List}
-use mathlib.Core.Bool.{and-eq-true-iff}
-use Prim.Native.Nat.{ℕ, suc, _+_, _<_}
+use Prim.Native.Nat.{ℕ, suc, _<_}
 use native.Mathlib.Omega.{arith}
-use lib.Dec.{leb}
-use borrow.Author.Tests.{leb-true, eqb-true}
+use borrow.Author.Tests.{eqb-true}
 use Rattle.lexer.proofs.Law.Runs.{by-test}
 use Rattle.tree.specs.Tree.{Tree, pick}
 use Rattle.tree.specs.Slots.{root, lay, put, shapeOf, pickTag}
@@ -17,9 +15,9 @@ use Rattle.syntax.specs.declared.parse.Parsed.{Parsed}
 use Rattle.syntax.specs.declared.parse.Parsed.the-variants as parsed
 use Rattle.syntax.specs.declared.parse.Picking.{Picking}
 use Rattle.syntax.specs.declared.parse.Picking.the-variants as picking
-use Rattle.syntax.proofs.Law.Symbols.{Picked, picking-sound}
+use Rattle.syntax.proofs.Law.Symbols.{in-range, Picked, picking-sound}
 use Rattle.syntax.proofs.Law.Steps.{Gives, asks-yes, asks-no, at-once}
-use Rattle.syntax.proofs.Law.Parts.{goes-on, stepped, ahead-wider, postfixed}
+use Rattle.syntax.proofs.Law.Parts.{goes-on, stepped, ahead-wider, with-part}
 
 -- what comes of a pick
 abbrev onPicking : Picking → (ℕ → Symbol → Result Symbol Tree) → Result Symbol Tree → Result Symbol Tree
@@ -37,7 +35,7 @@ module _ (text : List ℕ) (g : ℕ) (e : Tree) (x : Symbol) where
   member-step =
       let y = symbolAt text (x .end) in
       by-test (λ (p : Picking). Gives (expect (inText text) isWord (λ y. more (memberOf text y))) y (onPicking p more (part e x))) (isWord y)
-      (λ h. asks-yes _ _ _ _ h (λ q. absurd (omega (arith, leb-true (y .number) 34 (and-eq-true-iff (leb 28 (y .number)) (leb (y .number) 34) .0 h .1)))) at-once)
+      (λ h. asks-yes _ _ _ _ h (λ q. absurd (omega (arith, in-range 28 34 (y .number) h))) at-once)
       (λ h. asks-no _ _ _ _ h at-once)
 
   index-step : Gives (expect (inText text) isIndex (λ y. expect (inText text) (is closeSquare) (λ z. more (indexOf y)))) (symbolAt text (x .end)) (onPicking (indexPickOf text x) more (part e x))
@@ -46,7 +44,7 @@ module _ (text : List ℕ) (g : ℕ) (e : Tree) (x : Symbol) where
       let y = symbolAt text (x .end) in
       let z = symbolAt text (y .end) in
       by-test (λ (p : Picking). Gives (expect (inText text) isIndex (λ y. expect (inText text) (is closeSquare) (λ z. more (indexOf y)))) y (onPicking p more (part e x))) (isIndex y)
-      (λ h. asks-yes _ _ _ _ h (λ q. absurd (omega (arith, leb-true (y .number) 25 (and-eq-true-iff (leb 22 (y .number)) (leb (y .number) 25) .0 h .1))))
+      (λ h. asks-yes _ _ _ _ h (λ q. absurd (omega (arith, in-range 22 25 (y .number) h)))
       (by-test (λ (p : Picking). Gives (expect (inText text) (is closeSquare) (λ z. more (indexOf y))) z (onPicking p more (part e x))) (is closeSquare z)
       (λ i. asks-yes _ _ _ _ i (λ q. absurd (omega (arith, eqb-true (z .number) 19 i))) at-once)
       (λ i. asks-no _ _ _ _ i at-once)))
@@ -64,7 +62,7 @@ module _ (text : List ℕ) (g : ℕ) (e : Tree) (x : Symbol) where
   pub by-pick : {p : Picking} → pickingOf text x ≡ p → picksFrom text (inText text) (suc g) e x ≡ onPicking p more (part e x)
   by-pick i = subst (λ p. picksFrom text (inText text) (suc g) e x ≡ onPicking p more (part e x)) i (picks-step .gives)
 
-pub pick-sound : {text : List ℕ} {x : Symbol} {i : ℕ} {z : Symbol} → Sound text x → pickingOf text x ≡ picking.Pick i z → (x .at + 1 < z .at) × Sound text z × (i < 8)
+pub pick-sound : {text : List ℕ} {x : Symbol} {i : ℕ} {z : Symbol} → Sound text x → pickingOf text x ≡ picking.Pick i z → (x .at < z .at) × Sound text z
 pick-sound {text} {x} s p = subst (Picked text x) p (picking-sound text x s)
 
 module _ {text w : List ℕ} {at : ℕ} (x : Symbol) (s : Goes text at x) where
@@ -84,6 +82,7 @@ module _ {text w : List ℕ} {at : ℕ} (x : Symbol) (s : Goes text at x) where
   }
 
   pub picks-goes : {i : ℕ} {z : Symbol} {u v : List ℕ} {r : Parsed} → pickingOf text x ≡ picking.Pick i z → u ≡ put w (x .at) (pickTag i) at → PicksBy text u v (x .at) z r → PicksBy text w v at x r
+  unfolding lay
   picks-goes {i} {z} {u} {v} {r} p wrote t =
       let a = pick-sound (s .sound) p in
       record {
@@ -91,6 +90,6 @@ module _ {text w : List ℕ} {at : ℕ} (x : Symbol) (s : Goes text at x) where
         says = stepped (λ f. (u : List ℕ) (e : Tree) → w ≡ lay u (shapeOf e) → at ≡ root (shapeOf e) →
             Agrees shapeOf u v r (picksFrom text (inText text) f e x)) (omega arith) (λ g l w₀ e wrote′ rooted.
             let inner : Good shapeOf w₀ w at x (part e x) = record { tree = e; is = refl; rooted = rooted; wrote = wrote′ } in
-            let d = postfixed shapeOf (pick (x .at) i) (x .at) (pickTag i) (λ a. refl) inner wrote refl in
+            let d = with-part shapeOf (pick (x .at) i) (x .at) (pickTag i) (λ a. refl) (λ w a. refl) inner wrote refl in
             subst (λ a. Agrees shapeOf w₀ v r a) (sym (by-pick text g e x p)) (goes-on (picksFrom text (inText text)) _ t g (omega (arith, a .1 .order, a .1 .inside)) d));
       }

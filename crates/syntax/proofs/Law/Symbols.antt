@@ -1,9 +1,9 @@
 -- Symbols: where they lie in the text, what numbers they have, and what follows them.
 use mathlib.Core.Path.{_≡_, refl, ap, sym, subst, _∙_}
-use mathlib.Core.Bool.{cond, _&&_, and-eq-true-iff}
+use mathlib.Core.Bool.{true, cond, _&&_, and-eq-true-iff}
 use mathlib.Core.List.{List, [], _∷_}
-use Prim.Native.Nat.{ℕ, suc, _+_, _-_, _%_, _<_, _≤_}
-use native.Mathlib.Nat.{mod-lt, mod-eq-of-lt}
+use Prim.Native.Nat.{ℕ, suc, _-_, _%_, _<_, _≤_}
+use native.Mathlib.Nat.{mod-lt, mod-eq-of-lt, lt-of-le-of-lt}
 use native.Mathlib.Omega.{arith}
 use borrow.Author.Tests.{ltb-true, leb-true, eqb-true}
 use lib.Dec.{eqb, ltb, leb, lit<, lit≤}
@@ -111,11 +111,8 @@ place-most : (ss : List (List ℕ)) (s : List ℕ) → placeIn ss s ≤ length s
 place-most [] s = omega arith
 place-most (t ∷ ss) s = by-test (λ (n : ℕ). n ≤ suc (length ss)) (same s t) (λ e. omega arith) (λ e. omega (arith, place-most ss s))
 
-below : (n m k : ℕ) → n ≤ m → m < k → n < k
-below n m k h l = omega arith
-
 pub function-known : (text : List ℕ) (x : Symbol) → functionOf text x < 24
-function-known text x = below _ (length functionNames) 24 (place-most functionNames (slice (x .at) (x .end) text)) (lit< tt)
+function-known text x = lt-of-le-of-lt (place-most functionNames (slice (x .at) (x .end) text)) (lit< tt)
 
 kept : (n m k : ℕ) → n ≡ m → m < k → k ≤ 256 → n % 256 ≡ m
 kept n m k e h l = mod-eq-of-lt (omega arith) ∙ e
@@ -141,11 +138,17 @@ module _ (text : List ℕ) (x : Symbol) where
   pub member-is : (n : ℕ) → n ≡ memberIndex part → n % 256 ≡ memberOf text x
   member-is n e = kept n (memberOf text x) 8 (e ∙ ap memberIndex part-is) (member-known text x) (lit≤ tt)
 
+-- ---- tests
+
+-- what lies in a range is no greater than its end
+pub in-range : (n m k : ℕ) → leb n k && leb k m ≡ true → k ≤ m
+in-range n m k e = leb-true k m (and-eq-true-iff (leb n k) (leb k m) .0 e .1)
+
 -- ---- picks
 
--- the pick at x takes two bytes at least, and a symbol follows it
+-- the pick at x goes on, and a symbol follows it
 abbrev pub Picked : List ℕ → Symbol → Picking → Type 0
-Picked text x (pick.Pick index next) = (x .at + 1 < next .at) × Sound text next × (index < 8)
+Picked text x (pick.Pick index next) = (x .at < next .at) × Sound text next
 Picked text x (pick.Bad y) = Unit {0}
 Picked text x pick.Nothing = Unit {0}
 
@@ -153,26 +156,19 @@ module _ (text : List ℕ) (x : Symbol) (s : Sound text x) where
   member-sound : x .at < x .end → Picked text x (memberPickOf text x)
   unfolding memberPickOf
   member-sound h =
-      let y = symbolAt text (x .end) in
       let f = follows-at s in
       let g = follows-at (f .sound) in
-      by-test (Picked text x) (isWord y)
-      (λ e. (let m = f .sound .moves (omega (arith, leb-true (y .number) 34 (and-eq-true-iff (leb 28 (y .number)) (leb (y .number) 34) .0 e .1))) in
-      (omega (arith, m, f .later, g .later), g .sound, member-known text y)))
-      (λ e. tt)
+      by-test (Picked text x) (isWord (symbolAt text (x .end))) (λ e. (omega (arith, f .later, f .sound .order, g .later), g .sound)) (λ e. tt)
 
   index-sound : x .at < x .end → Picked text x (indexPickOf text x)
   unfolding indexPickOf
   index-sound h =
       let y = symbolAt text (x .end) in
-      let z = symbolAt text (y .end) in
       let f = follows-at s in
       let g = follows-at (f .sound) in
       let k = follows-at (g .sound) in
       by-test (Picked text x) (isIndex y)
-      (λ e. (let n : y .number ≤ 25 = leb-true (y .number) 25 (and-eq-true-iff (leb 22 (y .number)) (leb (y .number) 25) .0 e .1) in
-      let m = f .sound .moves (omega arith) in
-      by-test (Picked text x) (is closeSquare z) (λ i. (omega (arith, m, f .later, g .later, g .sound .order, k .later), k .sound, omega (arith, n))) (λ i. tt)))
+      (λ e. by-test (Picked text x) (is closeSquare (symbolAt text (y .end))) (λ i. (omega (arith, f .later, f .sound .order, g .later, g .sound .order, k .later), k .sound)) (λ i. tt))
       (λ e. tt)
 
   pub picking-sound : Picked text x (pickingOf text x)

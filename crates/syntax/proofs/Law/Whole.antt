@@ -16,11 +16,11 @@ use Rattle.tree.specs.Fits.{pruned}
 use Rattle.tree.proofs.Law.Places.{root-shape, length-lay}
 use Rattle.tree.proofs.Back.{stored}
 use Rattle.syntax.specs.Symbol.{symbolAt, end}
-use Rattle.syntax.specs.Parser.{Result, refused, choiceFrom, inText, stepsFor, parseOf}
+use Rattle.syntax.specs.Parser.{Result, refused, expressionFrom, inText, stepsFor, parseOf}
 use Rattle.syntax.specs.Height.{heightOf}
 use Rattle.syntax.specs.Names.{unknownIn, leftmostOf}
 use Rattle.syntax.specs.Judge.{Judged, fine, refusal, byNames, byHeight, byGrammar, judgedOf, answered, answerOf, kept, slotsAfter}
-use Rattle.syntax.specs.Inner.{Good, Agrees, ChoiceBy, WholeBy, namesJudged, treeJudged, Kept, JudgedBy}
+use Rattle.syntax.specs.Inner.{Good, Agrees, ExpressionBy, WholeBy, namesJudged, treeJudged, Kept, JudgedBy}
 use Rattle.syntax.specs.declared.symbol.Symbol.{Symbol}
 use Rattle.syntax.specs.declared.names.Leftmost.{Leftmost}
 use Rattle.syntax.specs.declared.names.Leftmost.the-variants.{At, Nothing}
@@ -35,10 +35,10 @@ use Rattle.syntax.proofs.Law.Heights.{pruned-low, pruned-high}
 
 -- ---- the tree of a text
 
-module _ {text w v : List ℕ} {x : Symbol} {r : Parsed} (i : x ≡ symbolAt text 0) (h : ChoiceBy text w v x r) where
+module _ {text w v : List ℕ} {x : Symbol} {r : Parsed} (i : x ≡ symbolAt text 0) (h : ExpressionBy text w v x r) where
   -- at the first symbol, with the steps that the definition has
-  first : {a : Result Symbol Tree} → choiceFrom text (inText text) (stepsFor text) x ≡ a → Gives (choiceFrom text (inText text) (stepsFor text)) (symbolAt text 0) a
-  first {a} e = subst (λ s. Gives (choiceFrom text (inText text) (stepsFor text)) s a) i (given e)
+  first : {a : Result Symbol Tree} → expressionFrom text (inText text) (stepsFor text) x ≡ a → Gives (expressionFrom text (inText text) (stepsFor text)) (symbolAt text 0) a
+  first {a} e = subst (λ s. Gives (expressionFrom text (inText text) (stepsFor text)) s a) i (given e)
 
   pub whole-bad : {y : Symbol} → r ≡ parsed.Bad y → WholeBy text w v (parsed.Bad y)
   unfolding parseOf

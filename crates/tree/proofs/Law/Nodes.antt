@@ -2,7 +2,8 @@
 use mathlib.Core.Bool.{cond}
 use mathlib.Core.Path.{_≡_}
 use mathlib.Core.List.{List}
-use Prim.Native.Nat.{ℕ, _+_, _-_, _<_}
+use Prim.Native.Nat.{ℕ, _<_}
+use native.Mathlib.Nat.{add-sub-cancel-left}
 use native.Mathlib.Omega.{arith}
 use lib.ListN.{getD}
 use lib.Dec.{eqb}
@@ -12,10 +13,6 @@ use Rattle.tree.specs.Node.{nodeAt, argumentAt}
 use Rattle.tree.specs.declared.node.Node.the-variants.{Literal, Variable, Unary, Binary, Conditional, Bare, Call, Pick}
 use Rattle.tree.specs.declared.node.Argument.the-variants.{Last, Next}
 use Rattle.tree.proofs.Law.Words.{tag-word, link-word}
-
--- a tag with a number added to its first one gives the number back
-offset : (first n : ℕ) → first + n - first ≡ n
-offset first n = omega arith
 
 module _ (v : List ℕ) (p : ℕ) where
   pub node-literal : (k : ℕ) → tagAt v p ≡ k → k < 8 → nodeAt v p ≡ Literal k
@@ -44,7 +41,7 @@ module _ (v : List ℕ) (p : ℕ) where
         le-ltb t 8 (omega arith),
         ne-eqb t 8 (omega arith),
         le-ltb t 16 (omega arith),
-        offset 16 f,
+        add-sub-cancel-left 16 f,
       )
 
   pub node-bare : (f : ℕ) → getD v p 0 ≡ word (functionTag f) 0 → f < 24 → nodeAt v p ≡ Bare f
@@ -57,7 +54,7 @@ module _ (v : List ℕ) (p : ℕ) where
   unfolding nodeAt
   node-binary o l r h g a b m =
       let t = operatorTag o in
-      simp (h, g, tag-word t r (omega arith), link-word t r m, le-ltb t 40 (omega arith), lt-ltb t 56 (omega arith), ne-eqb t 40 (omega arith), offset 40 o)
+      simp (h, g, tag-word t r (omega arith), link-word t r m, le-ltb t 40 (omega arith), lt-ltb t 56 (omega arith), ne-eqb t 40 (omega arith), add-sub-cancel-left 40 o)
 
   pub node-conditional : (q c a b : ℕ) → getD v p 0 ≡ word (operatorTag 0) q → leftAt v p ≡ c → q < 1024 →
       getD v q 0 ≡ word (operatorTag 1) b → leftAt v q ≡ a → b < 1024 → nodeAt v p ≡ Conditional q c a b
@@ -68,7 +65,7 @@ module _ (v : List ℕ) (p : ℕ) where
   unfolding nodeAt
   node-pick i x h a m =
       let t = pickTag i in
-      simp (h, tag-word t x (omega arith), link-word t x m, le-ltb t 40 (omega arith), le-ltb t 56 (omega arith), offset 56 i)
+      simp (h, tag-word t x (omega arith), link-word t x m, le-ltb t 40 (omega arith), le-ltb t 56 (omega arith), add-sub-cancel-left 56 i)
 
   pub argument-next : (l r : ℕ) → getD v p 0 ≡ word commaTag r → leftAt v p ≡ l → r < 1024 → argumentAt v p ≡ Next l r
   unfolding argumentAt

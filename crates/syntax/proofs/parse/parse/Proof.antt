@@ -7,8 +7,8 @@ use Rattle.syntax.proofs.Law.Whole.{whole-bad, whole-more, whole-goes}
 symbol-at-requires : tie.Need-symbol-at-requires
 symbol-at-requires c κs = search needs
 
-choice-requires : tie.Need-choice-requires
-choice-requires c κs =
+expression-requires : tie.Need-expression-requires
+expression-requires c κs =
     sound-as 0 (c .symbol-at .ensures)
 
 enum-known-root : tie.Need-enum-known-root
@@ -19,7 +19,7 @@ same-length c = search needs
 
 returns : tie.Need-returns
 returns c =
-    whole-more (c .before .before .before .before .before .before .before .before .symbol-at .ensures) (c .before .before .before .before .before .before .before .choice .ensures) (c .before .before .before .root .given .1) (c .if1 .taken)
+    whole-more (c .before .before .before .before .before .before .before .before .symbol-at .ensures) (c .before .before .before .before .before .before .before .expression .ensures) (c .before .before .before .root .given .1) (c .if1 .taken)
 
 enum-known-y : tie.Need-enum-known-y
 enum-known-y c = search needs
@@ -29,21 +29,21 @@ same-length-2 c = search needs
 
 returns-2 : tie.Need-returns-2
 returns-2 c =
-    whole-goes (c .before .before .before .before .before .before .before .before .symbol-at .ensures) (c .before .before .before .before .before .before .before .choice .ensures) (c .before .before .before .root .given .1) (c .if1 .left)
+    whole-goes (c .before .before .before .before .before .before .before .before .symbol-at .ensures) (c .before .before .before .before .before .before .before .expression .ensures) (c .before .before .before .root .given .1) (c .if1 .left)
 
 same-length-3 : tie.Need-same-length-3
 same-length-3 c = search needs
 
 returns-3 : tie.Need-returns-3
 returns-3 c =
-    whole-bad (c .before .before .before .before .before .before .symbol-at .ensures) (c .before .before .before .before .before .choice .ensures) (c .before .y .given .1)
+    whole-bad (c .before .before .before .before .before .before .symbol-at .ensures) (c .before .before .before .before .before .expression .ensures) (c .before .y .given .1)
 
 pub parse-spec : {M : Type 1} → statement M
 parse-spec =
     tie.close
     (tie.spec
     symbol-at-requires
-    choice-requires
+    expression-requires
     enum-known-root
     same-length
     returns

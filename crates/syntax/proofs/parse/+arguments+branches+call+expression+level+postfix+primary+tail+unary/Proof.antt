@@ -3,31 +3,31 @@ use borrow.Fn.Kinds.{In}
 use borrow.Fn.PlainCycle.{Measures, is, falls, and}
 use Rattle.syntax.proofs.parse.arguments.Reads as arguments
 use Rattle.syntax.proofs.parse.arguments.Kinds as arguments-kinds
-use Rattle.syntax.proofs.parse.+arguments+branches+call+choice+level+postfix+primary+tail+unary.Lts-arguments as arguments-lts
+use Rattle.syntax.proofs.parse.+arguments+branches+call+expression+level+postfix+primary+tail+unary.Lts-arguments as arguments-lts
 use Rattle.syntax.proofs.parse.branches.Reads as branches
 use Rattle.syntax.proofs.parse.branches.Kinds as branches-kinds
-use Rattle.syntax.proofs.parse.+arguments+branches+call+choice+level+postfix+primary+tail+unary.Lts-branches as branches-lts
+use Rattle.syntax.proofs.parse.+arguments+branches+call+expression+level+postfix+primary+tail+unary.Lts-branches as branches-lts
 use Rattle.syntax.proofs.parse.call.Reads as call
 use Rattle.syntax.proofs.parse.call.Kinds as call-kinds
-use Rattle.syntax.proofs.parse.+arguments+branches+call+choice+level+postfix+primary+tail+unary.Lts-call as call-lts
-use Rattle.syntax.proofs.parse.choice.Reads as choice
-use Rattle.syntax.proofs.parse.choice.Kinds as choice-kinds
-use Rattle.syntax.proofs.parse.+arguments+branches+call+choice+level+postfix+primary+tail+unary.Lts-choice as choice-lts
+use Rattle.syntax.proofs.parse.+arguments+branches+call+expression+level+postfix+primary+tail+unary.Lts-call as call-lts
+use Rattle.syntax.proofs.parse.expression.Reads as expression
+use Rattle.syntax.proofs.parse.expression.Kinds as expression-kinds
+use Rattle.syntax.proofs.parse.+arguments+branches+call+expression+level+postfix+primary+tail+unary.Lts-expression as expression-lts
 use Rattle.syntax.proofs.parse.level.Reads as level
 use Rattle.syntax.proofs.parse.level.Kinds as level-kinds
-use Rattle.syntax.proofs.parse.+arguments+branches+call+choice+level+postfix+primary+tail+unary.Lts-level as level-lts
+use Rattle.syntax.proofs.parse.+arguments+branches+call+expression+level+postfix+primary+tail+unary.Lts-level as level-lts
 use Rattle.syntax.proofs.parse.postfix.Reads as postfix
 use Rattle.syntax.proofs.parse.postfix.Kinds as postfix-kinds
-use Rattle.syntax.proofs.parse.+arguments+branches+call+choice+level+postfix+primary+tail+unary.Lts-postfix as postfix-lts
+use Rattle.syntax.proofs.parse.+arguments+branches+call+expression+level+postfix+primary+tail+unary.Lts-postfix as postfix-lts
 use Rattle.syntax.proofs.parse.primary.Reads as primary
 use Rattle.syntax.proofs.parse.primary.Kinds as primary-kinds
-use Rattle.syntax.proofs.parse.+arguments+branches+call+choice+level+postfix+primary+tail+unary.Lts-primary as primary-lts
+use Rattle.syntax.proofs.parse.+arguments+branches+call+expression+level+postfix+primary+tail+unary.Lts-primary as primary-lts
 use Rattle.syntax.proofs.parse.tail.Reads as tail
 use Rattle.syntax.proofs.parse.tail.Kinds as tail-kinds
-use Rattle.syntax.proofs.parse.+arguments+branches+call+choice+level+postfix+primary+tail+unary.Lts-tail as tail-lts
+use Rattle.syntax.proofs.parse.+arguments+branches+call+expression+level+postfix+primary+tail+unary.Lts-tail as tail-lts
 use Rattle.syntax.proofs.parse.unary.Reads as unary
 use Rattle.syntax.proofs.parse.unary.Kinds as unary-kinds
-use Rattle.syntax.proofs.parse.+arguments+branches+call+choice+level+postfix+primary+tail+unary.Lts-unary as unary-lts
+use Rattle.syntax.proofs.parse.+arguments+branches+call+expression+level+postfix+primary+tail+unary.Lts-unary as unary-lts
 use Rattle.syntax.proofs.parse.closed.Reads as closed-reads
 use Rattle.syntax.proofs.parse.picks.Reads as picks-reads
 use Rattle.syntax.proofs.symbol.after.Reads as after-reads
@@ -35,7 +35,7 @@ use Rattle.syntax.proofs.symbol.form.Reads as form-reads
 use Rattle.syntax.proofs.symbol.function.Reads as function-reads
 use Rattle.syntax.proofs.symbol.is_literal.Reads as is-literal-reads
 use Rattle.syntax.proofs.symbol.is_prefix.Reads as is-prefix-reads
-use Rattle.syntax.proofs.symbol.row.Reads as row-reads
+use Rattle.syntax.proofs.symbol.precedence.Reads as precedence-reads
 use Rattle.tree.proofs.write.bare.Reads as bare-reads
 use Rattle.tree.proofs.write.binary.Reads as binary-reads
 use Rattle.tree.proofs.write.branches.Reads as branches-reads
@@ -45,10 +45,10 @@ use Rattle.tree.proofs.write.conditional.Reads as conditional-reads
 use Rattle.tree.proofs.write.literal.Reads as literal-reads
 use Rattle.tree.proofs.write.unary.Reads as unary-reads
 use Rattle.tree.proofs.write.variable.Reads as variable-reads
-use Rattle.syntax.proofs.parse.+arguments+branches+call+choice+level+postfix+primary+tail+unary.{
+use Rattle.syntax.proofs.parse.+arguments+branches+call+expression+level+postfix+primary+tail+unary.{
   statement,
 }
-use Rattle.syntax.proofs.parse.+arguments+branches+call+choice+level+postfix+primary+tail+unary.Tie.{
+use Rattle.syntax.proofs.parse.+arguments+branches+call+expression+level+postfix+primary+tail+unary.Tie.{
   close,
 }
 use borrow.Author.Needs.{needs}
@@ -58,8 +58,8 @@ use native.Mathlib.Omega.{arith}
 use mathlib.Core.Path.{sym, _∙_}
 use Rattle.syntax.specs.Inner.{steps}
 use Rattle.syntax.proofs.Law.Parts.{ahead-tree}
-use Rattle.syntax.proofs.Law.Levels.{choices, pairs, lists, first-bad, second-bad, both, choice-none, branches-none, arguments-last}
-use Rattle.syntax.proofs.Law.Levels.{level-unary, row-bad, row-goes, row-operator, tail-ends, tail-bad, tail-goes, prefix-operator, unary-none, unary-bad, unary-goes, postfix-bad, postfix-goes}
+use Rattle.syntax.proofs.Law.Levels.{conditionals, pairs, lists, first-bad, second-bad, both, expression-none, branches-none, arguments-last}
+use Rattle.syntax.proofs.Law.Levels.{level-unary, binary-bad, binary-goes, operator-number, tail-ends, tail-bad, tail-goes, prefix-operator, unary-none, unary-bad, unary-goes, postfix-bad, postfix-goes}
 use Rattle.syntax.proofs.Law.Levels.{primary-literal, primary-variable, primary-brackets, primary-call, primary-none, call-none, call-bare, call-bad, call-goes}
 
 abbrev μ-arguments : Measures 2 arguments-kinds.ps ℕ
@@ -71,8 +71,8 @@ abbrev μ-branches : Measures 2 branches-kinds.ps ℕ
 abbrev μ-call : Measures 2 call-kinds.ps ℕ
 μ-call κs a = steps 1 (a .0 .now) (a .1 .1 .0)
 
-abbrev μ-choice : Measures 2 choice-kinds.ps ℕ
-μ-choice κs a = steps 12 (a .0 .now) (a .1 .1 .0)
+abbrev μ-expression : Measures 2 expression-kinds.ps ℕ
+μ-expression κs a = steps 12 (a .0 .now) (a .1 .1 .0)
 
 abbrev μ-level : Measures 2 level-kinds.ps ℕ
 μ-level κs a = let k = a .1 .1 .0 in steps (5 + k) (a .0 .now) (a .1 .1 .1 .0)
@@ -107,11 +107,11 @@ call-at t = and 2 call-kinds.ps (is 2 call-kinds.ps μ-call t) call.Pre
 abbrev call-below : ℕ → In 2 call-kinds.ps
 call-below t = and 2 call-kinds.ps (falls 2 call-kinds.ps _<_ μ-call t) call.Pre
 
-abbrev choice-at : ℕ → In 2 choice-kinds.ps
-choice-at t = and 2 choice-kinds.ps (is 2 choice-kinds.ps μ-choice t) choice.Pre
+abbrev expression-at : ℕ → In 2 expression-kinds.ps
+expression-at t = and 2 expression-kinds.ps (is 2 expression-kinds.ps μ-expression t) expression.Pre
 
-abbrev choice-below : ℕ → In 2 choice-kinds.ps
-choice-below t = and 2 choice-kinds.ps (falls 2 choice-kinds.ps _<_ μ-choice t) choice.Pre
+abbrev expression-below : ℕ → In 2 expression-kinds.ps
+expression-below t = and 2 expression-kinds.ps (falls 2 expression-kinds.ps _<_ μ-expression t) expression.Pre
 
 abbrev level-at : ℕ → In 2 level-kinds.ps
 level-at t = and 2 level-kinds.ps (is 2 level-kinds.ps μ-level t) level.Pre
@@ -144,16 +144,16 @@ abbrev unary-below : ℕ → In 2 unary-kinds.ps
 unary-below t = and 2 unary-kinds.ps (falls 2 unary-kinds.ps _<_ μ-unary t) unary.Pre
 
 abbrev arguments-uses : ℕ → arguments-lts.Claims
-arguments-uses t = (choice-below t, choice.Post, after-reads.Asked, after-reads.Learnt, arguments-below t, arguments.Post, comma-reads.Asked, comma-reads.Learnt)
+arguments-uses t = (expression-below t, expression.Post, after-reads.Asked, after-reads.Learnt, arguments-below t, arguments.Post, comma-reads.Asked, comma-reads.Learnt)
 
 abbrev branches-uses : ℕ → branches-lts.Claims
-branches-uses t = (choice-below t, choice.Post, after-reads.Asked, after-reads.Learnt, branches-reads.Asked, branches-reads.Learnt)
+branches-uses t = (expression-below t, expression.Post, after-reads.Asked, after-reads.Learnt, branches-reads.Asked, branches-reads.Learnt)
 
 abbrev call-uses : ℕ → call-lts.Claims
 call-uses t = (after-reads.Asked, after-reads.Learnt, function-reads.Asked, function-reads.Learnt, bare-reads.Asked, bare-reads.Learnt, arguments-below t, arguments.Post, closed-reads.Asked, closed-reads.Learnt, call-reads.Asked, call-reads.Learnt)
 
-abbrev choice-uses : ℕ → choice-lts.Claims
-choice-uses t = (level-below t, level.Post, after-reads.Asked, after-reads.Learnt, branches-below t, branches.Post, conditional-reads.Asked, conditional-reads.Learnt)
+abbrev expression-uses : ℕ → expression-lts.Claims
+expression-uses t = (level-below t, level.Post, after-reads.Asked, after-reads.Learnt, branches-below t, branches.Post, conditional-reads.Asked, conditional-reads.Learnt)
 
 abbrev level-uses : ℕ → level-lts.Claims
 level-uses t = (unary-below t, unary.Post, level-below t, level.Post, tail-below t, tail.Post)
@@ -162,16 +162,16 @@ abbrev postfix-uses : ℕ → postfix-lts.Claims
 postfix-uses t = (primary-below t, primary.Post, picks-reads.Asked, picks-reads.Learnt)
 
 abbrev primary-uses : ℕ → primary-lts.Claims
-primary-uses t = (is-literal-reads.Asked, is-literal-reads.Learnt, form-reads.Asked, form-reads.Learnt, literal-reads.Asked, literal-reads.Learnt, after-reads.Asked, after-reads.Learnt, variable-reads.Asked, variable-reads.Learnt, choice-below t, choice.Post, closed-reads.Asked, closed-reads.Learnt, call-below t, call.Post)
+primary-uses t = (is-literal-reads.Asked, is-literal-reads.Learnt, form-reads.Asked, form-reads.Learnt, literal-reads.Asked, literal-reads.Learnt, after-reads.Asked, after-reads.Learnt, variable-reads.Asked, variable-reads.Learnt, expression-below t, expression.Post, closed-reads.Asked, closed-reads.Learnt, call-below t, call.Post)
 
 abbrev tail-uses : ℕ → tail-lts.Claims
-tail-uses t = (row-reads.Asked, row-reads.Learnt, after-reads.Asked, after-reads.Learnt, level-below t, level.Post, binary-reads.Asked, binary-reads.Learnt, tail-below t, tail.Post)
+tail-uses t = (precedence-reads.Asked, precedence-reads.Learnt, after-reads.Asked, after-reads.Learnt, level-below t, level.Post, binary-reads.Asked, binary-reads.Learnt, tail-below t, tail.Post)
 
 abbrev unary-uses : ℕ → unary-lts.Claims
 unary-uses t = (is-prefix-reads.Asked, is-prefix-reads.Learnt, postfix-below t, postfix.Post, after-reads.Asked, after-reads.Learnt, unary-below t, unary.Post, unary-reads.Asked, unary-reads.Learnt)
 
-arguments-choice-requires : (t : ℕ) → arguments-lts.Need-choice-requires (arguments-uses t) (arguments-at t) arguments.Post
-arguments-choice-requires t c κs = (omega (arith, c .before .before .before .pre), c .before .before .before .pre .1)
+arguments-expression-requires : (t : ℕ) → arguments-lts.Need-expression-requires (arguments-uses t) (arguments-at t) arguments.Post
+arguments-expression-requires t c κs = (omega (arith, c .before .before .before .pre), c .before .before .before .pre .1)
 
 arguments-enum-known-root : (t : ℕ) → arguments-lts.Need-enum-known-root (arguments-uses t) (arguments-at t) arguments.Post
 arguments-enum-known-root t c = search needs
@@ -185,14 +185,14 @@ arguments-returns t c =
     let c1 = c .before .before .before in
     let root′ = c1 .root in
     let c2 = c1 .before .before .before .before in
-    let choice′ = c2 .choice in
-    arguments-last _ (root′ .given .1) (choice′ .ensures) (if1′ .taken)
+    let expression′ = c2 .expression in
+    arguments-last _ (root′ .given .1) (expression′ .ensures) (if1′ .taken)
 
 arguments-after-requires : (t : ℕ) → arguments-lts.Need-after-requires (arguments-uses t) (arguments-at t) arguments.Post
-arguments-after-requires t c κs = ahead-tree (c .before .before .before .before .before .before .before .before .choice .ensures) (c .before .before .before .before .root .given .1) .2
+arguments-after-requires t c κs = ahead-tree (c .before .before .before .before .before .before .before .before .expression .ensures) (c .before .before .before .before .root .given .1) .2
 
 arguments-arguments-requires : (t : ℕ) → arguments-lts.Need-arguments-requires (arguments-uses t) (arguments-at t) arguments.Post
-arguments-arguments-requires t c κs = let a = ahead-tree (c .before .before .before .before .before .before .before .before .before .choice .ensures) (c .before .before .before .before .before .root .given .1) in let f = c .after .ensures in let m = a .2 .moves (omega (arith, c .before .before .if1 .left)) in (omega (arith, c .before .before .before .before .before .before .before .before .before .before .before .before .before .pre, a, m, f .later, f .sound .order, f .sound .inside), f .sound)
+arguments-arguments-requires t c κs = let a = ahead-tree (c .before .before .before .before .before .before .before .before .before .expression .ensures) (c .before .before .before .before .before .root .given .1) in let f = c .after .ensures in let m = a .2 .moves (omega (arith, c .before .before .if1 .left)) in (omega (arith, c .before .before .before .before .before .before .before .before .before .before .before .before .before .pre, a, m, f .later, f .sound .order, f .sound .inside), f .sound)
 
 arguments-enum-known-rest : (t : ℕ) → arguments-lts.Need-enum-known-rest (arguments-uses t) (arguments-at t) arguments.Post
 arguments-enum-known-rest t c = search needs
@@ -224,8 +224,8 @@ arguments-returns-2 t c =
     let c6 = c5 .before .before .before in
     let root′ = c6 .root in
     let c7 = c6 .before .before .before .before in
-    let choice′ = c7 .choice in
-    both (lists _) _ (choice′ .ensures) (root′ .given .1) (if1′ .left) (after′ .ensures) (arguments′ .ensures) (rest′ .given .1) (comma′ .ensures)
+    let expression′ = c7 .expression in
+    both (lists _) _ (expression′ .ensures) (root′ .given .1) (if1′ .left) (after′ .ensures) (arguments′ .ensures) (rest′ .given .1) (comma′ .ensures)
 
 arguments-same-length-3 : (t : ℕ) → arguments-lts.Need-same-length-3 (arguments-uses t) (arguments-at t) arguments.Post
 arguments-same-length-3 t c = search needs
@@ -243,8 +243,8 @@ arguments-returns-3 t c =
     let c5 = c4 .before .before .before in
     let root′ = c5 .root in
     let c6 = c5 .before .before .before .before in
-    let choice′ = c6 .choice in
-    second-bad (lists _) _ (choice′ .ensures) (root′ .given .1) (if1′ .left) (after′ .ensures) (arguments′ .ensures) (y′ .given .1)
+    let expression′ = c6 .expression in
+    second-bad (lists _) _ (expression′ .ensures) (root′ .given .1) (if1′ .left) (after′ .ensures) (arguments′ .ensures) (y′ .given .1)
 
 arguments-same-length-4 : (t : ℕ) → arguments-lts.Need-same-length-4 (arguments-uses t) (arguments-at t) arguments.Post
 arguments-same-length-4 t c = search needs
@@ -254,11 +254,11 @@ arguments-returns-4 t c =
     let c1 = c .before in
     let y2′ = c1 .y2 in
     let c2 = c1 .before .before .before .before in
-    let choice′ = c2 .choice in
-    first-bad (lists _) _ (choice′ .ensures) (y2′ .given .1)
+    let expression′ = c2 .expression in
+    first-bad (lists _) _ (expression′ .ensures) (y2′ .given .1)
 
-branches-choice-requires : (t : ℕ) → branches-lts.Need-choice-requires (branches-uses t) (branches-at t) branches.Post
-branches-choice-requires t c κs = (omega (arith, c .before .before .before .pre), c .before .before .before .pre .1)
+branches-expression-requires : (t : ℕ) → branches-lts.Need-expression-requires (branches-uses t) (branches-at t) branches.Post
+branches-expression-requires t c κs = (omega (arith, c .before .before .before .pre), c .before .before .before .pre .1)
 
 branches-enum-known-root : (t : ℕ) → branches-lts.Need-enum-known-root (branches-uses t) (branches-at t) branches.Post
 branches-enum-known-root t c = search needs
@@ -272,14 +272,14 @@ branches-returns t c =
     let c1 = c .before .before .before in
     let root′ = c1 .root in
     let c2 = c1 .before .before .before .before in
-    let choice′ = c2 .choice in
-    branches-none _ (root′ .given .1) (choice′ .ensures) (if1′ .taken)
+    let expression′ = c2 .expression in
+    branches-none _ (root′ .given .1) (expression′ .ensures) (if1′ .taken)
 
 branches-after-requires : (t : ℕ) → branches-lts.Need-after-requires (branches-uses t) (branches-at t) branches.Post
-branches-after-requires t c κs = ahead-tree (c .before .before .before .before .before .before .before .before .choice .ensures) (c .before .before .before .before .root .given .1) .2
+branches-after-requires t c κs = ahead-tree (c .before .before .before .before .before .before .before .before .expression .ensures) (c .before .before .before .before .root .given .1) .2
 
-branches-choice-requires-2 : (t : ℕ) → branches-lts.Need-choice-requires-2 (branches-uses t) (branches-at t) branches.Post
-branches-choice-requires-2 t c κs = let a = ahead-tree (c .before .before .before .before .before .before .before .before .before .choice .ensures) (c .before .before .before .before .before .root .given .1) in let f = c .after .ensures in let m = a .2 .moves (omega (arith, c .before .before .if1 .left)) in (omega (arith, c .before .before .before .before .before .before .before .before .before .before .before .before .before .pre, a, m, f .later, f .sound .order, f .sound .inside), f .sound)
+branches-expression-requires-2 : (t : ℕ) → branches-lts.Need-expression-requires-2 (branches-uses t) (branches-at t) branches.Post
+branches-expression-requires-2 t c κs = let a = ahead-tree (c .before .before .before .before .before .before .before .before .before .expression .ensures) (c .before .before .before .before .before .root .given .1) in let f = c .after .ensures in let m = a .2 .moves (omega (arith, c .before .before .if1 .left)) in (omega (arith, c .before .before .before .before .before .before .before .before .before .before .before .before .before .pre, a, m, f .later, f .sound .order, f .sound .inside), f .sound)
 
 branches-enum-known-second : (t : ℕ) → branches-lts.Need-enum-known-second (branches-uses t) (branches-at t) branches.Post
 branches-enum-known-second t c = search needs
@@ -303,7 +303,7 @@ branches-returns-2 t c =
     let c2 = c1 .before .before .before in
     let second′ = c2 .second in
     let c3 = c2 .before .before .before .before in
-    let choice2′ = c3 .choice2 in
+    let expression2′ = c3 .expression2 in
     let c4 = c3 .before in
     let after′ = c4 .after in
     let c5 = c4 .before .before in
@@ -311,8 +311,8 @@ branches-returns-2 t c =
     let c6 = c5 .before .before .before in
     let root′ = c6 .root in
     let c7 = c6 .before .before .before .before in
-    let choice′ = c7 .choice in
-    both (pairs _) _ (choice′ .ensures) (root′ .given .1) (if1′ .left) (after′ .ensures) (choice2′ .ensures) (second′ .given .1) (branches′ .ensures)
+    let expression′ = c7 .expression in
+    both (pairs _) _ (expression′ .ensures) (root′ .given .1) (if1′ .left) (after′ .ensures) (expression2′ .ensures) (second′ .given .1) (branches′ .ensures)
 
 branches-same-length-3 : (t : ℕ) → branches-lts.Need-same-length-3 (branches-uses t) (branches-at t) branches.Post
 branches-same-length-3 t c = search needs
@@ -322,7 +322,7 @@ branches-returns-3 t c =
     let c1 = c .before in
     let y′ = c1 .y in
     let c2 = c1 .before .before .before .before in
-    let choice2′ = c2 .choice2 in
+    let expression2′ = c2 .expression2 in
     let c3 = c2 .before in
     let after′ = c3 .after in
     let c4 = c3 .before .before in
@@ -330,8 +330,8 @@ branches-returns-3 t c =
     let c5 = c4 .before .before .before in
     let root′ = c5 .root in
     let c6 = c5 .before .before .before .before in
-    let choice′ = c6 .choice in
-    second-bad (pairs _) _ (choice′ .ensures) (root′ .given .1) (if1′ .left) (after′ .ensures) (choice2′ .ensures) (y′ .given .1)
+    let expression′ = c6 .expression in
+    second-bad (pairs _) _ (expression′ .ensures) (root′ .given .1) (if1′ .left) (after′ .ensures) (expression2′ .ensures) (y′ .given .1)
 
 branches-same-length-4 : (t : ℕ) → branches-lts.Need-same-length-4 (branches-uses t) (branches-at t) branches.Post
 branches-same-length-4 t c = search needs
@@ -341,8 +341,8 @@ branches-returns-4 t c =
     let c1 = c .before in
     let y2′ = c1 .y2 in
     let c2 = c1 .before .before .before .before in
-    let choice′ = c2 .choice in
-    first-bad (pairs _) _ (choice′ .ensures) (y2′ .given .1)
+    let expression′ = c2 .expression in
+    first-bad (pairs _) _ (expression′ .ensures) (y2′ .given .1)
 
 call-after-requires : (t : ℕ) → call-lts.Need-after-requires (call-uses t) (call-at t) call.Post
 call-after-requires t c κs = c .before .before .pre .1 .0
@@ -455,47 +455,47 @@ call-returns-4 t c =
     let start′ = c8 in
     call-bad _ (start′ .pre .1 .0) (start′ .pre .1 .1) (after′ .ensures) (if1′ .left) (after2′ .ensures) (if2′ .left) (arguments′ .ensures) (closed′ .ensures) (q′ .given .1)
 
-choice-level-requires : (t : ℕ) → choice-lts.Need-level-requires (choice-uses t) (choice-at t) choice.Post
-choice-level-requires t c κs = (omega (arith, c .before .before .before .pre), (c .before .before .before .pre .1, omega arith))
+expression-level-requires : (t : ℕ) → expression-lts.Need-level-requires (expression-uses t) (expression-at t) expression.Post
+expression-level-requires t c κs = (omega (arith, c .before .before .before .pre), (c .before .before .before .pre .1, omega arith))
 
-choice-enum-known-root : (t : ℕ) → choice-lts.Need-enum-known-root (choice-uses t) (choice-at t) choice.Post
-choice-enum-known-root t c = search needs
+expression-enum-known-root : (t : ℕ) → expression-lts.Need-enum-known-root (expression-uses t) (expression-at t) expression.Post
+expression-enum-known-root t c = search needs
 
-choice-same-length : (t : ℕ) → choice-lts.Need-same-length (choice-uses t) (choice-at t) choice.Post
-choice-same-length t c = search needs
+expression-same-length : (t : ℕ) → expression-lts.Need-same-length (expression-uses t) (expression-at t) expression.Post
+expression-same-length t c = search needs
 
-choice-returns : (t : ℕ) → choice-lts.Need-returns (choice-uses t) (choice-at t) choice.Post
-choice-returns t c =
+expression-returns : (t : ℕ) → expression-lts.Need-returns (expression-uses t) (expression-at t) expression.Post
+expression-returns t c =
     let if1′ = c .if1 in
     let c1 = c .before .before .before in
     let root′ = c1 .root in
     let c2 = c1 .before .before .before .before in
     let level′ = c2 .level in
-    choice-none _ (root′ .given .1) (level′ .ensures) (if1′ .taken)
+    expression-none _ (root′ .given .1) (level′ .ensures) (if1′ .taken)
 
-choice-after-requires : (t : ℕ) → choice-lts.Need-after-requires (choice-uses t) (choice-at t) choice.Post
-choice-after-requires t c κs = ahead-tree (c .before .before .before .before .before .before .before .before .level .ensures) (c .before .before .before .before .root .given .1) .2
+expression-after-requires : (t : ℕ) → expression-lts.Need-after-requires (expression-uses t) (expression-at t) expression.Post
+expression-after-requires t c κs = ahead-tree (c .before .before .before .before .before .before .before .before .level .ensures) (c .before .before .before .before .root .given .1) .2
 
-choice-branches-requires : (t : ℕ) → choice-lts.Need-branches-requires (choice-uses t) (choice-at t) choice.Post
-choice-branches-requires t c κs = let a = ahead-tree (c .before .before .before .before .before .before .before .before .before .level .ensures) (c .before .before .before .before .before .root .given .1) in let f = c .after .ensures in let m = a .2 .moves (omega (arith, c .before .before .if1 .left)) in (omega (arith, c .before .before .before .before .before .before .before .before .before .before .before .before .before .pre, a, m, f .later, f .sound .order, f .sound .inside), f .sound)
+expression-branches-requires : (t : ℕ) → expression-lts.Need-branches-requires (expression-uses t) (expression-at t) expression.Post
+expression-branches-requires t c κs = let a = ahead-tree (c .before .before .before .before .before .before .before .before .before .level .ensures) (c .before .before .before .before .before .root .given .1) in let f = c .after .ensures in let m = a .2 .moves (omega (arith, c .before .before .if1 .left)) in (omega (arith, c .before .before .before .before .before .before .before .before .before .before .before .before .before .pre, a, m, f .later, f .sound .order, f .sound .inside), f .sound)
 
-choice-enum-known-colon : (t : ℕ) → choice-lts.Need-enum-known-colon (choice-uses t) (choice-at t) choice.Post
-choice-enum-known-colon t c = search needs
+expression-enum-known-colon : (t : ℕ) → expression-lts.Need-enum-known-colon (expression-uses t) (expression-at t) expression.Post
+expression-enum-known-colon t c = search needs
 
-choice-conditional-requires : (t : ℕ) → choice-lts.Need-conditional-requires (choice-uses t) (choice-at t) choice.Post
-choice-conditional-requires t c κs = search needs
+expression-conditional-requires : (t : ℕ) → expression-lts.Need-conditional-requires (expression-uses t) (expression-at t) expression.Post
+expression-conditional-requires t c κs = search needs
 
-choice-enum-known-y : (t : ℕ) → choice-lts.Need-enum-known-y (choice-uses t) (choice-at t) choice.Post
-choice-enum-known-y t c = search needs
+expression-enum-known-y : (t : ℕ) → expression-lts.Need-enum-known-y (expression-uses t) (expression-at t) expression.Post
+expression-enum-known-y t c = search needs
 
-choice-enum-known-y-2 : (t : ℕ) → choice-lts.Need-enum-known-y-2 (choice-uses t) (choice-at t) choice.Post
-choice-enum-known-y-2 t c = search needs
+expression-enum-known-y-2 : (t : ℕ) → expression-lts.Need-enum-known-y-2 (expression-uses t) (expression-at t) expression.Post
+expression-enum-known-y-2 t c = search needs
 
-choice-same-length-2 : (t : ℕ) → choice-lts.Need-same-length-2 (choice-uses t) (choice-at t) choice.Post
-choice-same-length-2 t c = search needs
+expression-same-length-2 : (t : ℕ) → expression-lts.Need-same-length-2 (expression-uses t) (expression-at t) expression.Post
+expression-same-length-2 t c = search needs
 
-choice-returns-2 : (t : ℕ) → choice-lts.Need-returns-2 (choice-uses t) (choice-at t) choice.Post
-choice-returns-2 t c =
+expression-returns-2 : (t : ℕ) → expression-lts.Need-returns-2 (expression-uses t) (expression-at t) expression.Post
+expression-returns-2 t c =
     let c1 = c .before .before in
     let conditional′ = c1 .conditional in
     let c2 = c1 .before .before .before in
@@ -510,13 +510,13 @@ choice-returns-2 t c =
     let root′ = c6 .root in
     let c7 = c6 .before .before .before .before in
     let level′ = c7 .level in
-    both (choices _) _ (level′ .ensures) (root′ .given .1) (if1′ .left) (after′ .ensures) (branches′ .ensures) (colon′ .given .1) (conditional′ .ensures)
+    both (conditionals _) _ (level′ .ensures) (root′ .given .1) (if1′ .left) (after′ .ensures) (branches′ .ensures) (colon′ .given .1) (conditional′ .ensures)
 
-choice-same-length-3 : (t : ℕ) → choice-lts.Need-same-length-3 (choice-uses t) (choice-at t) choice.Post
-choice-same-length-3 t c = search needs
+expression-same-length-3 : (t : ℕ) → expression-lts.Need-same-length-3 (expression-uses t) (expression-at t) expression.Post
+expression-same-length-3 t c = search needs
 
-choice-returns-3 : (t : ℕ) → choice-lts.Need-returns-3 (choice-uses t) (choice-at t) choice.Post
-choice-returns-3 t c =
+expression-returns-3 : (t : ℕ) → expression-lts.Need-returns-3 (expression-uses t) (expression-at t) expression.Post
+expression-returns-3 t c =
     let c1 = c .before in
     let y′ = c1 .y in
     let c2 = c1 .before .before .before .before in
@@ -529,18 +529,18 @@ choice-returns-3 t c =
     let root′ = c5 .root in
     let c6 = c5 .before .before .before .before in
     let level′ = c6 .level in
-    second-bad (choices _) _ (level′ .ensures) (root′ .given .1) (if1′ .left) (after′ .ensures) (branches′ .ensures) (y′ .given .1)
+    second-bad (conditionals _) _ (level′ .ensures) (root′ .given .1) (if1′ .left) (after′ .ensures) (branches′ .ensures) (y′ .given .1)
 
-choice-same-length-4 : (t : ℕ) → choice-lts.Need-same-length-4 (choice-uses t) (choice-at t) choice.Post
-choice-same-length-4 t c = search needs
+expression-same-length-4 : (t : ℕ) → expression-lts.Need-same-length-4 (expression-uses t) (expression-at t) expression.Post
+expression-same-length-4 t c = search needs
 
-choice-returns-4 : (t : ℕ) → choice-lts.Need-returns-4 (choice-uses t) (choice-at t) choice.Post
-choice-returns-4 t c =
+expression-returns-4 : (t : ℕ) → expression-lts.Need-returns-4 (expression-uses t) (expression-at t) expression.Post
+expression-returns-4 t c =
     let c1 = c .before in
     let y2′ = c1 .y2 in
     let c2 = c1 .before .before .before .before in
     let level′ = c2 .level in
-    first-bad (choices _) _ (level′ .ensures) (y2′ .given .1)
+    first-bad (conditionals _) _ (level′ .ensures) (y2′ .given .1)
 
 level-unary-requires : (t : ℕ) → level-lts.Need-unary-requires (level-uses t) (level-at t) level.Post
 level-unary-requires t c κs = (omega (arith, c .before .before .before .before .pre, c .before .if1 .taken), c .before .before .before .before .pre .1 .0)
@@ -587,7 +587,7 @@ level-returns-2 t c =
     let level′ = c3 .level in
     let c4 = c3 .before .before in
     let if1′ = c4 .if1 in
-    row-goes _ _ _ (omega (arith, if1′ .left)) (level′ .ensures) (root′ .given .1) (tail′ .ensures)
+    binary-goes _ _ _ (omega (arith, if1′ .left)) (level′ .ensures) (root′ .given .1) (tail′ .ensures)
 
 level-same-length-3 : (t : ℕ) → level-lts.Need-same-length-3 (level-uses t) (level-at t) level.Post
 level-same-length-3 t c = search needs
@@ -600,7 +600,7 @@ level-returns-3 t c =
     let level′ = c2 .level in
     let c3 = c2 .before .before in
     let if1′ = c3 .if1 in
-    row-bad _ _ _ (omega (arith, if1′ .left)) (level′ .ensures) (y′ .given .1)
+    binary-bad _ _ _ (omega (arith, if1′ .left)) (level′ .ensures) (y′ .given .1)
 
 postfix-primary-requires : (t : ℕ) → postfix-lts.Need-primary-requires (postfix-uses t) (postfix-at t) postfix.Post
 postfix-primary-requires t c κs = (omega (arith, c .before .before .before .pre), c .before .before .before .pre .1)
@@ -691,8 +691,8 @@ primary-returns-2 t c =
 primary-after-requires-3 : (t : ℕ) → primary-lts.Need-after-requires-3 (primary-uses t) (primary-at t) primary.Post
 primary-after-requires-3 t c κs = c .before .before .before .before .before .before .before .before .before .pre .1
 
-primary-choice-requires : (t : ℕ) → primary-lts.Need-choice-requires (primary-uses t) (primary-at t) primary.Post
-primary-choice-requires t c κs = let f = c .after3 .ensures in let m = c .before .before .before .before .before .before .before .before .before .before .pre .1 .moves (omega (arith, c .before .before .if3 .taken)) in (omega (arith, c .before .before .before .before .before .before .before .before .before .before .pre, m, f .later, f .sound .order, f .sound .inside), f .sound)
+primary-expression-requires : (t : ℕ) → primary-lts.Need-expression-requires (primary-uses t) (primary-at t) primary.Post
+primary-expression-requires t c κs = let f = c .after3 .ensures in let m = c .before .before .before .before .before .before .before .before .before .before .pre .1 .moves (omega (arith, c .before .before .if3 .taken)) in (omega (arith, c .before .before .before .before .before .before .before .before .before .before .pre, m, f .later, f .sound .order, f .sound .inside), f .sound)
 
 primary-closed-requires : (t : ℕ) → primary-lts.Need-closed-requires (primary-uses t) (primary-at t) primary.Post
 primary-closed-requires t c κs = search needs
@@ -704,14 +704,14 @@ primary-returns-3 : (t : ℕ) → primary-lts.Need-returns-3 (primary-uses t) (p
 primary-returns-3 t c =
     let closed′ = c .closed in
     let c1 = c .before .before .before in
-    let choice′ = c1 .choice in
+    let expression′ = c1 .expression in
     let c2 = c1 .before in
     let after3′ = c2 .after3 in
     let c3 = c2 .before .before in
     let if3′ = c3 .if3 in
     let c4 = c3 .before .before .before .before .before .before .before .before in
     let start′ = c4 in
-    primary-brackets _ (start′ .pre .1) (if3′ .taken) (after3′ .ensures) (choice′ .ensures) (closed′ .ensures)
+    primary-brackets _ (start′ .pre .1) (if3′ .taken) (after3′ .ensures) (expression′ .ensures) (closed′ .ensures)
 
 primary-call-requires : (t : ℕ) → primary-lts.Need-call-requires (primary-uses t) (primary-at t) primary.Post
 primary-call-requires t c κs = (omega (arith, c .before .before .before .before .before .before .before .before .before .before .before .pre), (c .before .before .before .before .before .before .before .before .before .before .before .pre .1, c .before .if4 .taken))
@@ -744,8 +744,8 @@ primary-returns-5 t c =
     let start′ = c5 in
     primary-none _ (start′ .pre .1) (sym (is-literal′ .ensures) ∙ if1′ .left) (if2′ .left) (if3′ .left) (if4′ .left)
 
-tail-row-requires : (t : ℕ) → tail-lts.Need-row-requires (tail-uses t) (tail-at t) tail.Post
-tail-row-requires t c κs = search needs
+tail-precedence-requires : (t : ℕ) → tail-lts.Need-precedence-requires (tail-uses t) (tail-at t) tail.Post
+tail-precedence-requires t c κs = search needs
 
 tail-cast-if1 : (t : ℕ) → tail-lts.Need-cast-if1 (tail-uses t) (tail-at t) tail.Post
 tail-cast-if1 t c = search needs
@@ -757,16 +757,16 @@ tail-returns : (t : ℕ) → tail-lts.Need-returns (tail-uses t) (tail-at t) tai
 tail-returns t c =
     let if1′ = c .if1 in
     let c1 = c .before in
-    let row′ = c1 .row in
+    let precedence′ = c1 .precedence in
     let c2 = c1 .before .before .before in
     let start′ = c2 in
-    tail-ends _ _ (start′ .pre .1 .0) (λ e. if1′ .taken (row′ .ensures ∙ e ∙ omega arith))
+    tail-ends _ _ (start′ .pre .1 .0) (λ e. if1′ .taken (precedence′ .ensures ∙ e ∙ omega arith))
 
 tail-after-requires : (t : ℕ) → tail-lts.Need-after-requires (tail-uses t) (tail-at t) tail.Post
 tail-after-requires t c κs = c .before .before .before .before .before .pre .1 .0 .sound
 
 tail-level-requires : (t : ℕ) → tail-lts.Need-level-requires (tail-uses t) (tail-at t) tail.Post
-tail-level-requires t c κs = let f = c .after .ensures in let o = row-operator (c .before .before .before .before .before .before .args .x .number) (c .before .before .before .before .before .before .args .k) (sym (c .before .before .before .row .ensures) ∙ omega (arith, c .before .before .if1 .left)) in let m = c .before .before .before .before .before .before .pre .1 .0 .sound .moves (omega (arith, o)) in (omega (arith, c .before .before .before .before .before .before .pre, m, f .later, f .sound .order, f .sound .inside), (f .sound, omega (arith, c .before .before .before .before .before .before .pre .1 .1)))
+tail-level-requires t c κs = let f = c .after .ensures in let o = operator-number (c .before .before .before .before .before .before .args .x .number) (c .before .before .before .before .before .before .args .k) (sym (c .before .before .before .precedence .ensures) ∙ omega (arith, c .before .before .if1 .left)) in let m = c .before .before .before .before .before .before .pre .1 .0 .sound .moves (omega (arith, o)) in (omega (arith, c .before .before .before .before .before .before .pre, m, f .later, f .sound .order, f .sound .inside), (f .sound, omega (arith, c .before .before .before .before .before .before .pre .1 .1)))
 
 tail-enum-known-right : (t : ℕ) → tail-lts.Need-enum-known-right (tail-uses t) (tail-at t) tail.Post
 tail-enum-known-right t c = search needs
@@ -775,7 +775,7 @@ tail-binary-requires : (t : ℕ) → tail-lts.Need-binary-requires (tail-uses t)
 tail-binary-requires t c κs = search needs
 
 tail-tail-requires : (t : ℕ) → tail-lts.Need-tail-requires (tail-uses t) (tail-at t) tail.Post
-tail-tail-requires t c κs = let f = c .before .before .before .before .before .before .before .before .before .before .before .after .ensures in let o = row-operator (c .before .before .before .before .before .before .before .before .before .before .before .before .before .before .before .before .before .args .x .number) (c .before .before .before .before .before .before .before .before .before .before .before .before .before .before .before .before .before .args .k) (sym (c .before .before .before .before .before .before .before .before .before .before .before .before .before .before .row .ensures) ∙ omega (arith, c .before .before .before .before .before .before .before .before .before .before .before .before .before .if1 .left)) in let m = c .before .before .before .before .before .before .before .before .before .before .before .before .before .before .before .before .before .pre .1 .0 .sound .moves (omega (arith, o)) in let a = ahead-tree (c .before .before .before .before .before .before .before .before .before .before .level .ensures) (c .before .before .before .before .before .before .right .given .1) in (omega (arith, c .before .before .before .before .before .before .before .before .before .before .before .before .before .before .before .before .before .pre, m, f .later, f .sound .order, f .sound .inside, a, a .2 .order, a .2 .inside), (record { sound = a .2; before = omega (arith, m, f .later, f .sound .order, a) }, c .before .before .before .before .before .before .before .before .before .before .before .before .before .before .before .before .before .pre .1 .1))
+tail-tail-requires t c κs = let f = c .before .before .before .before .before .before .before .before .before .before .before .after .ensures in let o = operator-number (c .before .before .before .before .before .before .before .before .before .before .before .before .before .before .before .before .before .args .x .number) (c .before .before .before .before .before .before .before .before .before .before .before .before .before .before .before .before .before .args .k) (sym (c .before .before .before .before .before .before .before .before .before .before .before .before .before .before .precedence .ensures) ∙ omega (arith, c .before .before .before .before .before .before .before .before .before .before .before .before .before .if1 .left)) in let m = c .before .before .before .before .before .before .before .before .before .before .before .before .before .before .before .before .before .pre .1 .0 .sound .moves (omega (arith, o)) in let a = ahead-tree (c .before .before .before .before .before .before .before .before .before .before .level .ensures) (c .before .before .before .before .before .before .right .given .1) in (omega (arith, c .before .before .before .before .before .before .before .before .before .before .before .before .before .before .before .before .before .pre, m, f .later, f .sound .order, f .sound .inside, a, a .2 .order, a .2 .inside), (record { sound = a .2; before = omega (arith, m, f .later, f .sound .order, a) }, c .before .before .before .before .before .before .before .before .before .before .before .before .before .before .before .before .before .pre .1 .1))
 
 tail-enum-known-y : (t : ℕ) → tail-lts.Need-enum-known-y (tail-uses t) (tail-at t) tail.Post
 tail-enum-known-y t c = search needs
@@ -798,10 +798,10 @@ tail-returns-2 t c =
     let c6 = c5 .before .before in
     let if1′ = c6 .if1 in
     let c7 = c6 .before in
-    let row′ = c7 .row in
+    let precedence′ = c7 .precedence in
     let c8 = c7 .before .before .before in
     let start′ = c8 in
-    tail-goes _ _ (start′ .pre .1 .0) (sym (row′ .ensures) ∙ omega (arith, if1′ .left)) (after′ .ensures) (start′ .pre .1 .1) (level′ .ensures) (right′ .given .1) (binary′ .ensures) (tail′ .ensures)
+    tail-goes _ _ (start′ .pre .1 .0) (sym (precedence′ .ensures) ∙ omega (arith, if1′ .left)) (after′ .ensures) (start′ .pre .1 .1) (level′ .ensures) (right′ .given .1) (binary′ .ensures) (tail′ .ensures)
 
 tail-same-length-2 : (t : ℕ) → tail-lts.Need-same-length-2 (tail-uses t) (tail-at t) tail.Post
 tail-same-length-2 t c = search needs
@@ -817,10 +817,10 @@ tail-returns-3 t c =
     let c4 = c3 .before .before in
     let if1′ = c4 .if1 in
     let c5 = c4 .before in
-    let row′ = c5 .row in
+    let precedence′ = c5 .precedence in
     let c6 = c5 .before .before .before in
     let start′ = c6 in
-    tail-bad _ _ (start′ .pre .1 .0) (sym (row′ .ensures) ∙ omega (arith, if1′ .left)) (after′ .ensures) (start′ .pre .1 .1) (level′ .ensures) (y′ .given .1)
+    tail-bad _ _ (start′ .pre .1 .0) (sym (precedence′ .ensures) ∙ omega (arith, if1′ .left)) (after′ .ensures) (start′ .pre .1 .1) (level′ .ensures) (y′ .given .1)
 
 unary-is-prefix-requires : (t : ℕ) → unary-lts.Need-is-prefix-requires (unary-uses t) (unary-at t) unary.Post
 unary-is-prefix-requires t c κs = search needs
@@ -896,15 +896,15 @@ unary-returns-3 t c =
     let start′ = c6 in
     unary-bad _ (sym (is-prefix′ .ensures) ∙ not-false (is-prefix′ .result) (if1′ .left)) (start′ .pre .1) (after′ .ensures) (unary′ .ensures) (y′ .given .1)
 
-pub +arguments+branches+call+choice+level+postfix+primary+tail+unary-spec : {M : Type 1} → statement M
-+arguments+branches+call+choice+level+postfix+primary+tail+unary-spec =
-    close μ-arguments μ-branches μ-call μ-choice μ-level μ-postfix μ-primary μ-tail μ-unary
-    (λ t. arguments-lts.spec (arguments-uses t) (arguments-at t) arguments.Post (arguments-choice-requires t) (arguments-enum-known-root t) (arguments-same-length t) (arguments-returns t) (arguments-after-requires t) (arguments-arguments-requires t) (arguments-enum-known-rest t) (arguments-comma-requires t) (arguments-enum-known-y t) (arguments-enum-known-y-2 t) (arguments-same-length-2 t) (arguments-returns-2 t) (arguments-same-length-3 t) (arguments-returns-3 t) (arguments-same-length-4 t) (arguments-returns-4 t))
-    (λ t. branches-lts.spec (branches-uses t) (branches-at t) branches.Post (branches-choice-requires t) (branches-enum-known-root t) (branches-same-length t) (branches-returns t) (branches-after-requires t) (branches-choice-requires-2 t) (branches-enum-known-second t) (branches-branches-requires t) (branches-enum-known-y t) (branches-enum-known-y-2 t) (branches-same-length-2 t) (branches-returns-2 t) (branches-same-length-3 t) (branches-returns-3 t) (branches-same-length-4 t) (branches-returns-4 t))
+pub +arguments+branches+call+expression+level+postfix+primary+tail+unary-spec : {M : Type 1} → statement M
++arguments+branches+call+expression+level+postfix+primary+tail+unary-spec =
+    close μ-arguments μ-branches μ-call μ-expression μ-level μ-postfix μ-primary μ-tail μ-unary
+    (λ t. arguments-lts.spec (arguments-uses t) (arguments-at t) arguments.Post (arguments-expression-requires t) (arguments-enum-known-root t) (arguments-same-length t) (arguments-returns t) (arguments-after-requires t) (arguments-arguments-requires t) (arguments-enum-known-rest t) (arguments-comma-requires t) (arguments-enum-known-y t) (arguments-enum-known-y-2 t) (arguments-same-length-2 t) (arguments-returns-2 t) (arguments-same-length-3 t) (arguments-returns-3 t) (arguments-same-length-4 t) (arguments-returns-4 t))
+    (λ t. branches-lts.spec (branches-uses t) (branches-at t) branches.Post (branches-expression-requires t) (branches-enum-known-root t) (branches-same-length t) (branches-returns t) (branches-after-requires t) (branches-expression-requires-2 t) (branches-enum-known-second t) (branches-branches-requires t) (branches-enum-known-y t) (branches-enum-known-y-2 t) (branches-same-length-2 t) (branches-returns-2 t) (branches-same-length-3 t) (branches-returns-3 t) (branches-same-length-4 t) (branches-returns-4 t))
     (λ t. call-lts.spec (call-uses t) (call-at t) call.Post (call-after-requires t) (call-returns t) (call-after-requires-2 t) (call-function-requires t) (call-bare-requires t) (call-after-requires-3 t) (call-same-length t) (call-returns-2 t) (call-arguments-requires t) (call-closed-requires t) (call-enum-known-root t) (call-call-requires t) (call-enum-known-q t) (call-same-length-2 t) (call-returns-3 t) (call-same-length-3 t) (call-returns-4 t))
-    (λ t. choice-lts.spec (choice-uses t) (choice-at t) choice.Post (choice-level-requires t) (choice-enum-known-root t) (choice-same-length t) (choice-returns t) (choice-after-requires t) (choice-branches-requires t) (choice-enum-known-colon t) (choice-conditional-requires t) (choice-enum-known-y t) (choice-enum-known-y-2 t) (choice-same-length-2 t) (choice-returns-2 t) (choice-same-length-3 t) (choice-returns-3 t) (choice-same-length-4 t) (choice-returns-4 t))
+    (λ t. expression-lts.spec (expression-uses t) (expression-at t) expression.Post (expression-level-requires t) (expression-enum-known-root t) (expression-same-length t) (expression-returns t) (expression-after-requires t) (expression-branches-requires t) (expression-enum-known-colon t) (expression-conditional-requires t) (expression-enum-known-y t) (expression-enum-known-y-2 t) (expression-same-length-2 t) (expression-returns-2 t) (expression-same-length-3 t) (expression-returns-3 t) (expression-same-length-4 t) (expression-returns-4 t))
     (λ t. level-lts.spec (level-uses t) (level-at t) level.Post (level-unary-requires t) (level-same-length t) (level-returns t) (level-sub-level t) (level-level-requires t) (level-enum-known-root t) (level-sub-tail t) (level-tail-requires t) (level-enum-known-y t) (level-same-length-2 t) (level-returns-2 t) (level-same-length-3 t) (level-returns-3 t))
     (λ t. postfix-lts.spec (postfix-uses t) (postfix-at t) postfix.Post (postfix-primary-requires t) (postfix-enum-known-root t) (postfix-picks-requires t) (postfix-enum-known-y t) (postfix-same-length t) (postfix-returns t) (postfix-same-length-2 t) (postfix-returns-2 t))
-    (λ t. primary-lts.spec (primary-uses t) (primary-at t) primary.Post (primary-is-literal-requires t) (primary-form-requires t) (primary-literal-requires t) (primary-after-requires t) (primary-same-length t) (primary-returns t) (primary-variable-requires t) (primary-after-requires-2 t) (primary-same-length-2 t) (primary-returns-2 t) (primary-after-requires-3 t) (primary-choice-requires t) (primary-closed-requires t) (primary-same-length-3 t) (primary-returns-3 t) (primary-call-requires t) (primary-same-length-4 t) (primary-returns-4 t) (primary-returns-5 t))
-    (λ t. tail-lts.spec (tail-uses t) (tail-at t) tail.Post (tail-row-requires t) (tail-cast-if1 t) (tail-add-if1 t) (tail-returns t) (tail-after-requires t) (tail-level-requires t) (tail-enum-known-right t) (tail-binary-requires t) (tail-tail-requires t) (tail-enum-known-y t) (tail-same-length t) (tail-returns-2 t) (tail-same-length-2 t) (tail-returns-3 t))
+    (λ t. primary-lts.spec (primary-uses t) (primary-at t) primary.Post (primary-is-literal-requires t) (primary-form-requires t) (primary-literal-requires t) (primary-after-requires t) (primary-same-length t) (primary-returns t) (primary-variable-requires t) (primary-after-requires-2 t) (primary-same-length-2 t) (primary-returns-2 t) (primary-after-requires-3 t) (primary-expression-requires t) (primary-closed-requires t) (primary-same-length-3 t) (primary-returns-3 t) (primary-call-requires t) (primary-same-length-4 t) (primary-returns-4 t) (primary-returns-5 t))
+    (λ t. tail-lts.spec (tail-uses t) (tail-at t) tail.Post (tail-precedence-requires t) (tail-cast-if1 t) (tail-add-if1 t) (tail-returns t) (tail-after-requires t) (tail-level-requires t) (tail-enum-known-right t) (tail-binary-requires t) (tail-tail-requires t) (tail-enum-known-y t) (tail-same-length t) (tail-returns-2 t) (tail-same-length-2 t) (tail-returns-3 t))
     (λ t. unary-lts.spec (unary-uses t) (unary-at t) unary.Post (unary-is-prefix-requires t) (unary-postfix-requires t) (unary-same-length t) (unary-returns t) (unary-after-requires t) (unary-unary-requires t) (unary-enum-known-root t) (unary-unary-requires-2 t) (unary-enum-known-y t) (unary-same-length-2 t) (unary-returns-2 t) (unary-same-length-3 t) (unary-returns-3 t))

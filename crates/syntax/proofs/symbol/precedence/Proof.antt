@@ -1,20 +1,20 @@
--- The match goes from the lowest number up, and `rowOf` from the row that binds most, so each return answers the tests of `rowOf` up to its own.
+-- The match goes from the lowest number up, and `precedenceOf` from the level that binds most, so each return answers the tests of `precedenceOf` up to its own.
 use native.Mathlib.Omega.{arith}
 use borrow.Author.Tests.{le-leb, lt-leb, ne-eqb}
-use Rattle.syntax.specs.Symbol.{rowOf}
-use Rattle.syntax.proofs.symbol.row.Statement.{statement}
-use Rattle.syntax.proofs.symbol.row.Tie as tie
+use Rattle.syntax.specs.Symbol.{precedenceOf}
+use Rattle.syntax.proofs.symbol.precedence.Statement.{statement}
+use Rattle.syntax.proofs.symbol.precedence.Tie as tie
 
 returns : tie.Need-returns
-unfolding rowOf
+unfolding precedenceOf
 returns c = rw (c .match .keys1)
 
 returns-2 : tie.Need-returns-2
-unfolding rowOf
+unfolding precedenceOf
 returns-2 c = rw (c .match .keys2)
 
 returns-3 : tie.Need-returns-3
-unfolding rowOf
+unfolding precedenceOf
 returns-3 c =
     let n = c .before .before .before .args .n in
     rw (
@@ -26,7 +26,7 @@ returns-3 c =
     )
 
 returns-4 : tie.Need-returns-4
-unfolding rowOf
+unfolding precedenceOf
 returns-4 c =
     let n = c .before .before .before .before .args .n in
     rw (
@@ -37,19 +37,19 @@ returns-4 c =
     )
 
 returns-5 : tie.Need-returns-5
-unfolding rowOf
+unfolding precedenceOf
 returns-5 c =
     let n = c .before .before .before .before .before .args .n in
     rw (lt-leb 12 n (omega arith), le-leb 10 n (omega arith), le-leb n 11 (omega arith))
 
 returns-6 : tie.Need-returns-6
-unfolding rowOf
+unfolding precedenceOf
 returns-6 c =
     let n = c .before .before .before .before .before .before .args .n in
     rw (le-leb 12 n (omega arith), le-leb n 14 (omega arith))
 
 returns-7 : tie.Need-returns-7
-unfolding rowOf
+unfolding precedenceOf
 returns-7 c =
     let n = c .before .before .args .n in
     rw (
@@ -62,7 +62,7 @@ returns-7 c =
     )
 
 returns-8 : tie.Need-returns-8
-unfolding rowOf
+unfolding precedenceOf
 returns-8 c =
     let n = c .before .before .before .before .before .before .args .n in
     rw (
@@ -78,7 +78,7 @@ returns-8 c =
       ne-eqb n 2 (λ e. omega arith),
     )
 
-pub row-spec : {M : Type 1} → statement M
-row-spec =
+pub precedence-spec : {M : Type 1} → statement M
+precedence-spec =
     tie.close
     (tie.spec returns returns-2 returns-3 returns-4 returns-5 returns-6 returns-7 returns-8)
