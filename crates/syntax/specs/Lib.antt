@@ -1,4 +1,6 @@
 pub mod Symbol
+pub mod Grammar
+pub mod Place
 pub mod Parser
 pub mod Height
 pub mod Names

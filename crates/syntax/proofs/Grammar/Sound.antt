@@ -1,0 +1,261 @@
+-- What the parser takes the grammar derives, and what it took before a refusal begins something right.
+use mathlib.Core.Path.{_≡_, refl}
+use mathlib.Core.Bool.{Bool, true, false}
+use mathlib.Core.List.{List, [], _∷_, _++_, append-assoc, append-nil}
+use mathlib.Core.Option.{Option, none, some}
+use Prim.Native.Nat.{ℕ, zero, suc}
+use Rattle.tree.specs.Tree.{Tree, Arguments}
+use Rattle.tree.specs.Tree as tree
+use Rattle.syntax.specs.Symbol.{question, colon, openRound, closeRound, openSquare, closeSquare, comma, dot, word, is, isLiteral, isIndex, isWord, isPrefix, levels, hasPrecedence, functionOf}
+use Rattle.syntax.specs.Symbol as symbol
+use Rattle.syntax.specs.Grammar.{
+  expression,
+  binary,
+  unary,
+  postfix,
+  primary,
+  ‹_›,
+  Derives,
+  expression-binary,
+  conditional,
+  binary-unary,
+  binary-lower,
+  operation,
+  unary-postfix,
+  sign,
+  postfix-primary,
+  member,
+  index,
+  literal,
+  variable,
+  bare,
+  call,
+  brackets,
+  Lists,
+  last,
+  next,
+}
+use Rattle.syntax.specs.Parser.{
+  Result,
+  part,
+  refused,
+  spent,
+  nothing,
+  onPart,
+  andThen,
+  tested,
+  ask,
+  expect,
+  atEnd,
+  closed,
+  Branches,
+  branches,
+  chosen,
+  expressionFrom,
+  branchesFrom,
+  levelFrom,
+  tailFrom,
+  unaryFrom,
+  postfixFrom,
+  picksFrom,
+  primaryFrom,
+  callFrom,
+  argumentsFrom,
+  wholeFrom,
+}
+use Rattle.syntax.specs.declared.symbol.Symbol.{Symbol}
+
+-- ---- over a list of symbols
+
+abbrev pub Parser : Type 0 → Type 0
+Parser A = List Symbol → Result (List Symbol) A
+
+abbrev pub uncons : List Symbol → Option (Symbol × List Symbol)
+uncons [] = none
+uncons (x ∷ xs) = some (x, xs)
+
+-- something of the language P begins with these
+pub record Opens {A : Type 0} (P : List Symbol → A → Type 0) (xs : List Symbol) : Type 0 where
+  pub more : List Symbol
+  pub value : A
+  pub right : P (xs ++ more) value
+
+-- what may be answered of the symbols s
+abbrev pub Fair : {A : Type 0} → (List Symbol → A → Type 0) → List Symbol → Result (List Symbol) A → Type 0
+Fair P s (part a r) = (xs : List Symbol) × (s ≡ xs ++ r) × P xs a
+Fair P s (refused r) = (xs : List Symbol) × (s ≡ xs ++ r) × Opens P xs
+Fair P s spent = Unit {0}
+
+-- m goes on with something of the language P of which p has been taken
+pub record Sound {A : Type 0} (P : List Symbol → A → Type 0) (p : List Symbol) (m : Parser A) : Type 0 where
+  pub opens : Opens P p
+  pub fair : (s : List Symbol) → Fair P (p ++ s) (m s)
+
+-- ---- the pieces
+
+module _ {A : Type 0} {P : List Symbol → A → Type 0} where
+  shorter : (p q : List Symbol) → Opens P (p ++ q) → Opens P p
+  shorter p q o = record { more = q ++ o .more; value = o .value; right = rw (← append-assoc) (o .right) }
+
+  whole-of : {p : List Symbol} (a : A) → P p a → Opens P p
+  whole-of a d = record { more = []; value = a; right = rw append-nil d }
+
+  s-part : {p : List Symbol} {a : A} → P p a → Sound P p (part a)
+  s-part {p} {a} d = record { opens = whole-of a d; fair = λ s. (p, refl, d) }
+
+  s-refused : {p : List Symbol} → Opens P p → Sound P p refused
+  s-refused {p} o = record { opens = o; fair = λ s. (p, refl, o) }
+
+  s-nothing : {p : List Symbol} → Opens P p → Sound P p nothing
+  s-nothing o = record { opens = o; fair = λ s. tt }
+
+  pub s-end : {p : List Symbol} (a : A) → P p a → Sound P p (atEnd uncons a)
+  unfolding atEnd
+  s-end {p} a d = record { opens = whole-of a d; fair = go }
+    where
+      go : (s : List Symbol) → Fair P (p ++ s) (atEnd uncons a s)
+      go [] = (p, refl, d)
+      go (x ∷ s) = (p, refl, whole-of a d)
+
+  module _ {p : List Symbol} {y : Symbol → Parser A} {n : Parser A} where
+    s-ask : (test : Symbol → Bool) → ((x : Symbol) → test x ≡ true → Sound P (p ++ ‹ x ›) (y x)) → Sound P p n → Sound P p (ask uncons test y n)
+    unfolding ask
+    s-ask test a b = record { opens = b .opens; fair = go }
+      where
+        asked : (x : Symbol) (s : List Symbol) (w : Bool) → test x ≡ w → Fair P (p ++ (x ∷ s)) (tested w (λ _. y x s) (λ _. n (x ∷ s)))
+        asked x s true e = rw (← append-assoc p ‹ x › s) (a x e .fair s)
+        asked x s false e = b .fair (x ∷ s)
+
+        go : (s : List Symbol) → Fair P (p ++ s) (ask uncons test y n s)
+        go [] = b .fair []
+        go (x ∷ s) = asked x s (test x) refl
+
+  module _ {p : List Symbol} {y : Symbol → Parser A} where
+    -- some symbol passes the test, so that what was taken before can be completed
+    s-expect : (test : Symbol → Bool) (x : Symbol) → test x ≡ true → ((x : Symbol) → test x ≡ true → Sound P (p ++ ‹ x ›) (y x)) → Sound P p (expect uncons test y)
+    s-expect test x h a = s-ask test a (s-refused (shorter p ‹ x › (a x h .opens)))
+
+module _ {A B : Type 0} (P : List Symbol → A → Type 0) (Q : List Symbol → B → Type 0) (p : List Symbol) (k : A → Parser B) (on : (q : List Symbol) (a : A) → P q a → Sound Q (p ++ q) (k a)) where
+  then-fair : (s : List Symbol) (r : Result (List Symbol) A) → Fair P s r → Fair Q (p ++ s) (onPart r k)
+  then-fair s (part a r) h = rw (h .1, ← append-assoc) (on (h .0) a (h .2) .fair r)
+  then-fair s (refused r) h =
+      let o = h .2 in
+      (p ++ h .0, rw (h .1, append-assoc), shorter (p ++ h .0) (o .more) (rw append-assoc (on (h .0 ++ o .more) (o .value) (o .right) .opens)))
+  then-fair s spent h = tt
+
+module _ {A B : Type 0} {P : List Symbol → A → Type 0} {Q : List Symbol → B → Type 0} {p : List Symbol} {m : Parser A} {k : A → Parser B} where
+  pub s-then : Sound P [] m → ((q : List Symbol) (a : A) → P q a → Sound Q (p ++ q) (k a)) → Sound Q p (andThen m k)
+  unfolding andThen
+  s-then h on = record {
+    opens = let o = h .opens in shorter p (o .more) (on (o .more) (o .value) (o .right) .opens);
+    fair = λ s. then-fair P Q p k on s (m s) (h .fair s);
+  }
+
+-- a language that lies in another
+module _ {A : Type 0} {P Q : List Symbol → A → Type 0} (up : (q : List Symbol) (a : A) → P q a → Q q a) where
+  up-opens : {p : List Symbol} → Opens P p → Opens Q p
+  up-opens o = record { more = o .more; value = o .value; right = up _ _ (o .right) }
+
+  up-fair : (s : List Symbol) (r : Result (List Symbol) A) → Fair P s r → Fair Q s r
+  up-fair s (part a r) h = (h .0, h .1, up _ _ (h .2))
+  up-fair s (refused r) h = (h .0, h .1, up-opens (h .2))
+  up-fair s spent h = tt
+
+  s-up : {p : List Symbol} {m : Parser A} → Sound P p m → Sound Q p m
+  s-up {p} {m} h = record { opens = up-opens (h .opens); fair = λ s. up-fair (p ++ s) (m s) (h .fair s) }
+
+-- ---- the levels
+
+-- a symbol of the number n, at no place in particular
+abbrev pub made : ℕ → Symbol
+made n = record { number = n; at = 0; end = 0 }
+
+module _ (text : List ℕ) where
+  -- the branches of a conditional, with the `:` between them
+  data Forks : List Symbol → Branches → Type 0 where
+    forks : {xs ys : List Symbol} {a b : Tree} (y : Symbol) → is colon y ≡ true → Derives text expression xs a → Derives text expression ys b → Forks (xs ++ ‹ y › ++ ys) (branches (y .at) a b)
+
+  fork : (cs : List Symbol) (c : Tree) (x : Symbol) (q : List Symbol) (b : Branches) → is question x ≡ true → Derives text (binary levels) cs c → Forks q b → Derives text expression (cs ++ ‹ x › ++ q) (chosen (x .at) c b)
+  fork cs c x _ _ h d (forks {xs} {ys} {a} {b} y i d₁ d₂) =
+      let same : cs ++ ‹ x › ++ (xs ++ ‹ y › ++ ys) ≡ cs ++ ‹ x › ++ xs ++ ‹ y › ++ ys = simp append-assoc in
+      rw same (conditional x y h i d d₁ d₂)
+
+  -- arguments, with the bracket that closes
+  data Closes : List Symbol → Arguments → Type 0 where
+    closes : {xs : List Symbol} {args : Arguments} (z : Symbol) → is closeRound z ≡ true → Lists text xs args → Closes (xs ++ ‹ z ›) args
+
+  called : (x y : Symbol) (q : List Symbol) (args : Arguments) → is word x ≡ true → is openRound y ≡ true → Closes q args → Derives text primary (‹ x › ++ ‹ y › ++ q) (tree.call (x .at) (functionOf text x) args)
+  called x y _ _ h i (closes z j d) = call x y z h i j d
+
+  -- a literal is of every level
+  abbrev one : Tree
+  one = tree.literal 0 0
+
+  one-postfix : Derives text postfix ‹ made 26 › one
+  one-postfix = postfix-primary (literal (made 26) refl)
+
+  one-binary : (k : ℕ) → Derives text (binary k) ‹ made 26 › one
+  one-binary zero = binary-unary (unary-postfix one-postfix)
+  one-binary (suc k) = binary-lower (one-binary k)
+
+  one-expression : Derives text expression ‹ made 26 › one
+  one-expression = expression-binary (one-binary levels)
+
+  -- it opens whatever it belongs to
+  opened : {A : Type 0} {P : List Symbol → A → Type 0} (a : A) → P ‹ made 26 › a → Opens P []
+  opened a d = record { more = ‹ made 26 ›; value = a; right = d }
+
+  mutual
+    unfolding expressionFrom
+
+    pub expression-sound : (f : ℕ) → Sound (Derives text expression) [] (expressionFrom text uncons f)
+    expression-sound zero = s-nothing (opened one one-expression)
+    expression-sound (suc f) =
+        s-then (level-sound f levels) (λ cs c d. s-ask (is question) (λ x h. s-then (branches-sound f) (λ q b d′. s-part (fork cs c x q b h d d′))) (s-part (expression-binary d)))
+
+    branches-sound : (f : ℕ) → Sound Forks [] (branchesFrom text uncons f)
+    branches-sound zero = s-nothing (record { more = ‹ made 26 › ++ ‹ made 1 › ++ ‹ made 26 ›; value = branches 0 one one; right = forks (made 1) refl one-expression one-expression })
+    branches-sound (suc f) = s-then (expression-sound f) (λ _ _ d. s-expect (is colon) (made 1) refl (λ y i. s-then (expression-sound f) (λ _ _ d′. s-part (forks y i d d′))))
+
+    level-sound : (f k : ℕ) → Sound (Derives text (binary k)) [] (levelFrom text uncons f k)
+    level-sound zero k = s-nothing (opened one (one-binary k))
+    level-sound (suc f) zero = s-up (λ _ _ d. binary-unary d) (unary-sound f)
+    level-sound (suc f) (suc k) = s-then (level-sound f k) (λ _ _ d. tail-sound f k (binary-lower d))
+
+    tail-sound : (f k : ℕ) {p : List Symbol} {e : Tree} → Derives text (binary (suc k)) p e → Sound (Derives text (binary (suc k))) p (tailFrom text uncons f k e)
+    tail-sound zero k {p} {e} d = s-nothing (whole-of e d)
+    tail-sound (suc f) k d = s-ask (hasPrecedence (suc k)) (λ x h. s-then (level-sound f k) (λ _ _ d′. tail-sound f k (operation x h d d′))) (s-part d)
+
+    unary-sound : (f : ℕ) → Sound (Derives text unary) [] (unaryFrom text uncons f)
+    unary-sound zero = s-nothing (opened one (unary-postfix one-postfix))
+    unary-sound (suc f) = s-ask isPrefix (λ x h. s-then (unary-sound f) (λ _ _ d. s-part (sign x h d))) (s-up (λ _ _ d. unary-postfix d) (postfix-sound f))
+
+    postfix-sound : (f : ℕ) → Sound (Derives text postfix) [] (postfixFrom text uncons f)
+    postfix-sound zero = s-nothing (opened one one-postfix)
+    postfix-sound (suc f) = s-then (primary-sound f) (λ _ _ d. picks-sound f (postfix-primary d))
+
+    picks-sound : (f : ℕ) {p : List Symbol} {e : Tree} → Derives text postfix p e → Sound (Derives text postfix) p (picksFrom text uncons f e)
+    picks-sound zero {p} {e} d = s-nothing (whole-of e d)
+    picks-sound (suc f) d =
+        s-ask (is dot) (λ x h. s-expect isWord (made 34) refl (λ y i. picks-sound f (member x y h i d)))
+        (s-ask (is openSquare) (λ x h. s-expect isIndex (made 22) refl (λ y i. s-expect (is closeSquare) (made 19) refl (λ z j. picks-sound f (index x y z h i j d))))
+        (s-part d))
+
+    primary-sound : (f : ℕ) → Sound (Derives text primary) [] (primaryFrom text uncons f)
+    primary-sound zero = s-nothing (opened one (literal (made 26) refl))
+    primary-sound (suc f) =
+        s-ask isLiteral (λ x h. s-part (literal x h))
+        (s-ask (is symbol.variable) (λ x h. s-part (variable x h))
+        (s-ask (is openRound) (λ x h. s-then (expression-sound f) (λ _ _ d. s-expect (is closeRound) (made 17) refl (λ y i. s-part (brackets x y h i d))))
+        (s-ask (is word) (λ x h. call-sound f x h) (s-refused (opened one (literal (made 26) refl))))))
+
+    call-sound : (f : ℕ) (x : Symbol) → is word x ≡ true → Sound (Derives text primary) ‹ x › (callFrom text uncons f x)
+    call-sound zero x h = s-nothing (record { more = ‹ made 16 › ++ ‹ made 17 ›; value = _; right = bare x (made 16) (made 17) h refl refl })
+    call-sound (suc f) x h =
+        s-expect (is openRound) (made 16) refl (λ y i.
+        s-ask (is closeRound) (λ z j. s-part (bare x y z h i j))
+        (s-then (s-then (arguments-sound f) (λ _ _ d. s-expect (is closeRound) (made 17) refl (λ z j. s-part (closes z j d)))) (λ q args d. s-part (called x y q args h i d))))
+
+    arguments-sound : (f : ℕ) → Sound (Lists text) [] (argumentsFrom text uncons f)
+    arguments-sound zero = s-nothing (opened (tree.last one) (last one-expression))
+    arguments-sound (suc f) = s-then (expression-sound f) (λ _ _ d. s-ask (is comma) (λ x h. s-then (arguments-sound f) (λ _ _ d′. s-part (next x h d d′))) (s-part (last d)))
