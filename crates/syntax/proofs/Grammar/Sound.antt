@@ -14,6 +14,7 @@ use Rattle.syntax.specs.Grammar.{
   unary,
   postfix,
   primary,
+  arguments,
   ‹_›,
   Derives,
   expression-binary,
@@ -31,7 +32,6 @@ use Rattle.syntax.specs.Grammar.{
   bare,
   call,
   brackets,
-  Lists,
   last,
   next,
 }
@@ -182,7 +182,7 @@ module _ (text : List ℕ) where
 
   -- arguments, with the bracket that closes
   data Closes : List Symbol → Arguments → Type 0 where
-    closes : {xs : List Symbol} {args : Arguments} (z : Symbol) → is closeRound z ≡ true → Lists text xs args → Closes (xs ++ ‹ z ›) args
+    closes : {xs : List Symbol} {args : Arguments} (z : Symbol) → is closeRound z ≡ true → Derives text arguments xs args → Closes (xs ++ ‹ z ›) args
 
   called : (x y : Symbol) (q : List Symbol) (args : Arguments) → is word x ≡ true → is openRound y ≡ true → Closes q args → Derives text primary (‹ x › ++ ‹ y › ++ q) (tree.call (x .at) (functionOf text x) args)
   called x y _ _ h i (closes z j d) = call x y z h i j d
@@ -256,6 +256,6 @@ module _ (text : List ℕ) where
         s-ask (is closeRound) (λ z j. s-part (bare x y z h i j))
         (s-then (s-then (arguments-sound f) (λ _ _ d. s-expect (is closeRound) (made 17) refl (λ z j. s-part (closes z j d)))) (λ q args d. s-part (called x y q args h i d))))
 
-    arguments-sound : (f : ℕ) → Sound (Lists text) [] (argumentsFrom text uncons f)
+    arguments-sound : (f : ℕ) → Sound (Derives text arguments) [] (argumentsFrom text uncons f)
     arguments-sound zero = s-nothing (opened (tree.last one) (last one-expression))
     arguments-sound (suc f) = s-then (expression-sound f) (λ _ _ d. s-ask (is comma) (λ x h. s-then (arguments-sound f) (λ _ _ d′. s-part (next x h d d′))) (s-part (last d)))
