@@ -29,16 +29,17 @@ module _ (text : List ℕ) where
   Never xs [] = Right xs → ⊥
   Never xs (y ∷ ys) = Begins (xs ++ ‹ y ›) → ⊥
 
+  -- xs are refused where the rest is left
+  pub record Refused (xs rest : List Symbol) : Type 0 where
+    pub taken : List Symbol
+    pub are : xs ≡ taken ++ rest
+    pub begins : Begins taken
+    pub never : Never taken rest
+
   -- "the first token" of the rest, "or the end"
   abbrev pub placeOf : List Symbol → ℕ
   placeOf [] = length text
   placeOf (x ∷ xs) = x .at
 
-  -- these are refused at a place
-  pub record RefusedAt (xs : List Symbol) (place : ℕ) : Type 0 where
-    pub taken : List Symbol
-    pub rest : List Symbol
-    pub are : xs ≡ taken ++ rest
-    pub begins : Begins taken
-    pub never : Never taken rest
-    pub at : place ≡ placeOf rest
+  abbrev pub RefusedAt : List Symbol → ℕ → Type 0
+  RefusedAt xs place = (rest : List Symbol) × Refused xs rest × (place ≡ placeOf rest)
