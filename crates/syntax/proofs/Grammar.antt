@@ -4,3 +4,6 @@ pub mod Same
 pub mod Complete
 pub mod Lasts
 pub mod Decides
+pub mod Streams
+pub mod Text
+pub mod Places

@@ -10,6 +10,11 @@ use Rattle.syntax.specs.Symbol.{symbolOf}
 use Rattle.syntax.specs.Grammar.{expression, ‹_›, Derives}
 use Rattle.syntax.specs.declared.symbol.Symbol.{Symbol}
 
+-- what matters of symbols to the grammar
+abbrev pub numbersOf : List Symbol → List ℕ
+numbersOf [] = []
+numbersOf (x ∷ xs) = x .number ∷ numbersOf xs
+
 module _ (text : List ℕ) where
   -- what the grammar sees of tokens
   abbrev pub symbolsOf : List Placed → List Symbol

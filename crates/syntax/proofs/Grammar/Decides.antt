@@ -11,7 +11,7 @@ use Rattle.syntax.specs.Parser.{Result, part, refused, spent, onPart, an
 use Rattle.syntax.specs.declared.symbol.Symbol.{Symbol}
 use Rattle.syntax.proofs.Law.Steps.{given, then-part}
 use Rattle.syntax.proofs.Grammar.Sound.{uncons, Fair, Sound, s-then, s-end, expression-sound}
-use Rattle.syntax.proofs.Grammar.Kept.{le-add}
+use Rattle.syntax.proofs.Grammar.Kept.{le-of}
 use Rattle.syntax.proofs.Grammar.Same.{Gone, Out, parts, refusals, gone, same-at, whole-same}
 use Rattle.syntax.proofs.Grammar.Complete.{completed}
 use Rattle.syntax.proofs.Grammar.Lasts.{list-lasts}
@@ -88,7 +88,7 @@ module _ (text : List ℕ) where
   not-begun : (f : ℕ) (p : List Symbol) (x : Symbol) (s : List Symbol) → wholeFrom text uncons f (p ++ (x ∷ s)) ≡ refused (x ∷ s) → Begins text (p ++ ‹ x ›) → ⊥
   not-begun f p x s h b =
       let g : ℕ = stepsOf (p ++ ‹ x › ++ b .0) in
-      apart (same-at (whole-same {u = s} {v = b .0} text (le-add f g)) (p ++ ‹ x ›))
+      apart (same-at (whole-same {u = s} {v = b .0} text (le-of f (f + g) (omega arith))) (p ++ ‹ x ›))
       (subst (λ t. wholeFrom text uncons f t ≡ refused (x ∷ s)) (sym (append-assoc p ‹ x › s)) h)
       (right-taken (f + g) (p ++ ‹ x › ++ b .0) (b .1 .0) (omega arith) (b .1 .1))
 

@@ -2,8 +2,8 @@
 use mathlib.Core.Bool.{Bool}
 use mathlib.Core.List.{List}
 use mathlib.Core.Option.{Option}
-use Prim.Native.Nat.{ℕ, zero, suc, _+_}
-use native.Mathlib.Nat.{suc-add}
+use Prim.Native.Nat.{ℕ, zero, suc, _≤_}
+use native.Mathlib.Omega.{arith}
 use Rattle.tree.specs.Tree.{Tree, Arguments, pick, binary}
 use Rattle.syntax.specs.Symbol.{question, colon, openRound, closeRound, openSquare, closeSquare, comma, dot, word, is, isLiteral, isIndex, indexOf, isWord, isPrefix, levels, hasPrecedence, memberOf}
 use Rattle.syntax.specs.Symbol as symbol
@@ -36,9 +36,10 @@ pub data Le : ℕ → ℕ → Type 0 where
   le-zero : (g : ℕ) → Le zero g
   le-suc : {f g : ℕ} → Le f g → Le (suc f) (suc g)
 
-pub le-add : (f g : ℕ) → Le f (f + g)
-le-add zero g = le-zero (zero + g)
-le-add (suc f) g = rw suc-add (le-suc (le-add f g))
+pub le-of : (f g : ℕ) → f ≤ g → Le f g
+le-of zero g l = le-zero g
+le-of (suc f) zero l = absurd (omega arith)
+le-of (suc f) (suc g) l = le-suc (le-of f g (omega arith))
 
 pub record Kept {S T : Type 0} (after : S → Option (Symbol × S)) (after′ : T → Option (Symbol × T)) (R : (A : Type 0) → (S → Result S A) → (T → Result T A) → Type 0) : Type 1 where
   pub k-part : {A : Type 0} {a : A} → R A (part a) (part a)

@@ -51,6 +51,17 @@ number-below Variable = omega arith
 number-below (Word k) = omega (arith, word-below k)
 number-below (Punctuator k) = punctuator-apart k .0
 
+punctuator-end : (k : ℕ) → numberOf (Punctuator k) ≡ 36 → ⊥
+punctuator-end k = by-test (λ (m : ℕ). m ≡ 36 → ⊥) (ltb k 22) (λ e. (let h = ltb-true k 22 e in λ q. omega arith)) (λ e. λ q. omega arith)
+
+-- no token has the number of the end
+pub number-end : (t : Token) → numberOf t ≡ 36 → ⊥
+number-end (Number n k) e = omega (arith, digits-below n k)
+number-end String e = omega arith
+number-end Variable e = omega arith
+number-end (Word k) e = omega (arith, word-below k)
+number-end (Punctuator k) e = punctuator-end k e
+
 -- 35 is the number of variables only, and these have more than one byte
 long-spelled : {s : List ℕ} {t : Token} → Spells s t → numberOf t ≡ 35 → 1 < length s
 long-spelled (number {n = n} {k = k} d h) e = absurd (omega (arith, digits-below n k))
