@@ -3,5 +3,6 @@ pub mod Longest
 pub mod Munch
 pub mod Only
 pub mod OnDemand
+pub mod Refusals
 -- What the functions' proofs lean on
 pub mod Law

@@ -7,3 +7,4 @@ pub mod Decides
 pub mod Streams
 pub mod Text
 pub mod Places
+pub mod Judged

@@ -1,0 +1,106 @@
+-- The number 4 and its place, by the grammar.
+use mathlib.Core.Path.{_≡_, refl, ap, sym, subst, _∙_}
+use mathlib.Core.Logic.{_⊎_, inl, inr, _↔_}
+use mathlib.Core.Bool.{Bool, true, false}
+use mathlib.Core.List.{List}
+use Prim.Native.Nat.{ℕ, _≤_}
+use native.Mathlib.Omega.{arith}
+use lib.Dec.{ltb}
+use lib.ListN.{length}
+use borrow.Author.Tests.{ltb-false, le-ltb}
+use Rattle.lexer.specs.Tokens.{Placed, tokens, tokensOf}
+use Rattle.lexer.specs.Scan.{scanOf}
+use Rattle.lexer.specs.declared.scan.Verdict.{Verdict}
+use Rattle.lexer.specs.declared.scan.Verdict.the-variants as scan
+use Rattle.lexer.proofs.Refusals.{With, scan-says}
+use Rattle.tree.specs.Tree.{Tree}
+use Rattle.syntax.specs.Grammar.{expression, Derives}
+use Rattle.syntax.specs.Place.{symbolsOf, RefusedAt}
+use Rattle.syntax.specs.Parser.{Result, part, refused, spent, parseOf}
+use Rattle.syntax.specs.Height.{heightOf}
+use Rattle.syntax.specs.Names.{unknownIn, leftmostOf}
+use Rattle.syntax.specs.Judge.{Judged, fine, refusal, byNames, byHeight, byGrammar, byTokens, bySize, judgedOf}
+use Rattle.syntax.specs.declared.symbol.Symbol.{Symbol}
+use Rattle.syntax.specs.declared.names.Leftmost.{Leftmost}
+use Rattle.syntax.specs.declared.names.Leftmost.the-variants.{At, Nothing}
+use Rattle.syntax.proofs.Grammar.Text.{never-spent, accepts, refuses}
+
+-- a refusal's number; 0 for none
+abbrev numberOf : Judged → ℕ
+numberOf (fine e) = 0
+numberOf (refusal n p) = n
+
+-- the checks before the grammar have passed, and these are the text's tokens
+pub record Scanned (text : List ℕ) (ts : List Placed) : Type 0 where
+  pub short : length text ≤ 1024
+  pub fine : scanOf text ≡ scan.Fine
+  pub lexed : tokensOf text ≡ tokens ts
+
+module _ (text : List ℕ) where
+  names-number : (l : Leftmost) (e : Tree) → numberOf (byNames l e) ≡ 4 → ⊥
+  names-number (At p) e h = omega arith
+  names-number Nothing e h = omega arith
+
+  height-number : (b : Bool) (e : Tree) → numberOf (byHeight b text e) ≡ 4 → ⊥
+  height-number true e h = omega arith
+  height-number false e h = names-number (leftmostOf (unknownIn text e)) e h
+
+  -- 4 comes from the parser's refusal alone
+  four-of : (a : Result Symbol Tree) (p : ℕ) → parseOf text ≡ a → byGrammar a text ≡ refusal 4 p → (x : Symbol) × (parseOf text ≡ refused x) × (x .at ≡ p)
+  four-of (part e x) p h k = absurd (height-number (ltb 64 (heightOf e)) e (ap numberOf k))
+  four-of (refused x) p h k = (x, h, cc)
+  four-of spent p h k = absurd (never-spent text h)
+
+  -- a tree comes from the parser's part alone
+  fine-of : (a : Result Symbol Tree) (e : Tree) → parseOf text ≡ a → byGrammar a text ≡ fine e → (x : Symbol) × (parseOf text ≡ part e x)
+  fine-of (part e′ x) e h k = (x, h ∙ ap (λ e. part e x) (heighted (ltb 64 (heightOf e′)) e′ k))
+    where
+      named : (l : Leftmost) (e′ : Tree) → byNames l e′ ≡ fine e → e′ ≡ e
+      named (At p) e′ k = cc
+      named Nothing e′ k = cc
+
+      heighted : (b : Bool) (e′ : Tree) → byHeight b text e′ ≡ fine e → e′ ≡ e
+      heighted true e′ k = cc
+      heighted false e′ k = named (leftmostOf (unknownIn text e′)) e′ k
+  fine-of (refused x) e h k = absurd (let z = ap numberOf k in omega arith)
+  fine-of spent e h k = absurd (never-spent text h)
+
+  -- what is not refused with 1, 2 or 3 is judged by the grammar
+  module _ (j : Judged) (one : numberOf j ≡ 1 → ⊥) (two : numberOf j ≡ 2 → ⊥) (three : numberOf j ≡ 3 → ⊥) where
+    by-verdict : length text ≤ 1024 → (v : Verdict) → scanOf text ≡ v → byTokens v text ≡ j → ((p : ℕ) × (v ≡ scan.Refused 2 p)) ⊎ ((ts : List Placed) × (tokensOf text ≡ tokens ts) × With 3 v) →
+        (ts : List Placed) × Scanned text ts × (byGrammar (parseOf text) text ≡ j)
+    by-verdict l v e k (inl (p, i)) = absurd (two (ap numberOf (sym k ∙ ap (λ v. byTokens v text) i)))
+    by-verdict l scan.Fine e k (inr (ts, i, w)) = (ts, record { short = l; fine = e; lexed = i }, k)
+    by-verdict l (scan.Refused n p) e k (inr (ts, i, w)) = absurd (three (sym (ap numberOf k) ∙ w))
+
+    by-size : (b : Bool) → ltb 1024 (length text) ≡ b → bySize b text ≡ j → (ts : List Placed) × Scanned text ts × (byGrammar (parseOf text) text ≡ j)
+    by-size true e k = absurd (one (sym (ap numberOf k)))
+    by-size false e k = by-verdict (ltb-false 1024 (length text) e) (scanOf text) refl k (scan-says text)
+
+    by-grammar : judgedOf text ≡ j → (ts : List Placed) × Scanned text ts × (byGrammar (parseOf text) text ≡ j)
+    unfolding judgedOf
+    by-grammar h = by-size (ltb 1024 (length text)) refl h
+
+  scanned-judged : {ts : List Placed} → Scanned text ts → judgedOf text ≡ byGrammar (parseOf text) text
+  unfolding judgedOf
+  scanned-judged s = ap (λ b. bySize b text) (le-ltb 1024 (length text) (s .short)) ∙ ap (λ v. byTokens v text) (s .fine)
+
+  -- A text is refused with 4 at a place exactly if the checks before have passed and the grammar refuses its tokens there.
+  pub judged-four : (p : ℕ) → (judgedOf text ≡ refusal 4 p) ↔ ((ts : List Placed) × Scanned text ts × RefusedAt text (symbolsOf text ts) p)
+  judged-four p = (onto, back)
+    where
+      onto : judgedOf text ≡ refusal 4 p → (ts : List Placed) × Scanned text ts × RefusedAt text (symbolsOf text ts) p
+      onto h =
+          let (ts, s, k) = by-grammar (refusal 4 p) (λ e. omega arith) (λ e. omega arith) (λ e. omega arith) h in
+          (ts, s, refuses text ts (s .lexed) p .0 (four-of (parseOf text) p refl k))
+
+      back : (ts : List Placed) × Scanned text ts × RefusedAt text (symbolsOf text ts) p → judgedOf text ≡ refusal 4 p
+      back (ts, s, r) =
+          let (x, i, q) = refuses text ts (s .lexed) p .1 r in
+          scanned-judged s ∙ ap (λ a. byGrammar a text) i ∙ ap (refusal 4) q
+
+  -- The tree of a fine text is the one that the grammar derives of its tokens.
+  pub judged-fine : (e : Tree) → judgedOf text ≡ fine e → (ts : List Placed) × Scanned text ts × Derives text expression (symbolsOf text ts) e
+  judged-fine e h =
+      let (ts, s, k) = by-grammar (fine e) (λ e. omega arith) (λ e. omega arith) (λ e. omega arith) h in
+      (ts, s, accepts text ts (s .lexed) e .0 (fine-of (parseOf text) e refl k))
