@@ -4,47 +4,46 @@ use mathlib.Core.List.{List, [], _∷_, _++_}
 use Prim.Native.Nat.{ℕ}
 use lib.ListN.{length}
 use Rattle.lexer.specs.Tokens.{Placed, placed}
-use Rattle.lexer.specs.declared.token.Lexeme.the-variants.{Found}
 use Rattle.tree.specs.Tree.{Tree}
-use Rattle.syntax.specs.Symbol.{symbolOf}
-use Rattle.syntax.specs.Grammar.{expression, ‹_›, Derives}
+use Rattle.syntax.specs.Symbol.{numberOf}
+use Rattle.syntax.specs.Grammar.{expression, Derives}
 use Rattle.syntax.specs.declared.symbol.Symbol.{Symbol}
 
--- what matters of symbols to the grammar
-abbrev pub numbersOf : List Symbol → List ℕ
+-- what the grammar sees of tokens
+abbrev pub symbolsOf : List Placed → List Symbol
+symbolsOf [] = []
+symbolsOf (placed t at until ∷ ts) = record { number = numberOf t; at = at; end = until } ∷ symbolsOf ts
+
+-- and all that matters of them for being right: `places-free` in proofs/Grammar/Places.antt
+abbrev pub numbersOf : List Placed → List ℕ
 numbersOf [] = []
-numbersOf (x ∷ xs) = x .number ∷ numbersOf xs
+numbersOf (placed t at until ∷ ts) = numberOf t ∷ numbersOf ts
 
 module _ (text : List ℕ) where
-  -- what the grammar sees of tokens
-  abbrev pub symbolsOf : List Placed → List Symbol
-  symbolsOf [] = []
-  symbolsOf (placed t at end ∷ ts) = symbolOf text (Found t at end) ∷ symbolsOf ts
-
   -- a right expression
-  abbrev pub Right : List Symbol → Type 0
-  Right xs = (e : Tree) × Derives text expression xs e
+  abbrev pub Right : List Placed → Type 0
+  Right ts = (e : Tree) × Derives text expression (symbolsOf ts) e
 
-  -- some right expression begins with these
-  abbrev pub Begins : List Symbol → Type 0
-  Begins xs = (ys : List Symbol) × Right (xs ++ ys)
+  -- some right expression begins with these tokens
+  abbrev pub Begins : List Placed → Type 0
+  Begins ts = (us : List Placed) × Right (ts ++ us)
 
-  -- "no right expression can have" the first of the rest "there"; where nothing is left, these are none
-  abbrev pub Never : List Symbol → List Symbol → Type 0
-  Never xs [] = Right xs → ⊥
-  Never xs (y ∷ ys) = Begins (xs ++ ‹ y ›) → ⊥
+  -- "no right expression can have" the first of the rest "there"; where nothing is left, the tokens are none
+  abbrev pub Never : List Placed → List Placed → Type 0
+  Never ts [] = Right ts → ⊥
+  Never ts (u ∷ us) = Begins (ts ++ (u ∷ [])) → ⊥
 
-  -- xs are refused where the rest is left
-  pub record Refused (xs rest : List Symbol) : Type 0 where
-    pub taken : List Symbol
-    pub are : xs ≡ taken ++ rest
+  -- the tokens are refused where the rest is left
+  pub record Refused (ts rest : List Placed) : Type 0 where
+    pub taken : List Placed
+    pub are : ts ≡ taken ++ rest
     pub begins : Begins taken
     pub never : Never taken rest
 
   -- "the first token" of the rest, "or the end"
-  abbrev pub placeOf : List Symbol → ℕ
+  abbrev pub placeOf : List Placed → ℕ
   placeOf [] = length text
-  placeOf (x ∷ xs) = x .at
+  placeOf (placed t at until ∷ ts) = at
 
-  abbrev pub RefusedAt : List Symbol → ℕ → Type 0
-  RefusedAt xs place = (rest : List Symbol) × Refused xs rest × (place ≡ placeOf rest)
+  abbrev pub RefusedAt : List Placed → ℕ → Type 0
+  RefusedAt ts place = (rest : List Placed) × Refused ts rest × (place ≡ placeOf rest)

@@ -61,7 +61,7 @@ use Rattle.syntax.specs.Parser.{
 use Rattle.syntax.specs.declared.symbol.Symbol.{Symbol}
 use Rattle.syntax.proofs.Law.Steps.{Gives, given, then-part}
 use Rattle.syntax.proofs.Law.Levels.{prefix-operator}
-use Rattle.syntax.proofs.Grammar.Sound.{Parser, uncons, made}
+use Rattle.syntax.proofs.Grammar.Lists.{Parser, uncons, made, by-number}
 
 -- ---- tests
 
@@ -80,9 +80,8 @@ module _ {A : Type 0} (test : Symbol → Bool) (y : Symbol → Parser A) (n : Pa
   no [] h i = record { gives = i .gives }
   no (x ∷ s) h i = record { gives = rw h (i .gives) }
 
--- a test sees the number of a symbol and nothing else
 seen : (n : ℕ) (x : Symbol) (test : Symbol → Bool) → is n x ≡ true → test (made (x .number)) ≡ test (made n)
-seen n x test h = ap (λ m. test (made m)) (eqb-true (x .number) n h)
+seen n x test h = by-number test (eqb-true (x .number) n h)
 
 -- ---- what may follow
 

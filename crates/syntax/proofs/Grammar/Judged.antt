@@ -86,21 +86,21 @@ module _ (text : List ℕ) where
   scanned-judged s = ap (λ b. bySize b text) (le-ltb 1024 (length text) (s .short)) ∙ ap (λ v. byTokens v text) (s .fine)
 
   -- A text is refused with 4 at a place exactly if the checks before have passed and the grammar refuses its tokens there.
-  pub judged-four : (p : ℕ) → (judgedOf text ≡ refusal 4 p) ↔ ((ts : List Placed) × Scanned text ts × RefusedAt text (symbolsOf text ts) p)
+  pub judged-four : (p : ℕ) → (judgedOf text ≡ refusal 4 p) ↔ ((ts : List Placed) × Scanned text ts × RefusedAt text ts p)
   judged-four p = (onto, back)
     where
-      onto : judgedOf text ≡ refusal 4 p → (ts : List Placed) × Scanned text ts × RefusedAt text (symbolsOf text ts) p
+      onto : judgedOf text ≡ refusal 4 p → (ts : List Placed) × Scanned text ts × RefusedAt text ts p
       onto h =
           let (ts, s, k) = by-grammar (refusal 4 p) (λ e. omega arith) (λ e. omega arith) (λ e. omega arith) h in
           (ts, s, refuses text ts (s .lexed) p .0 (four-of (parseOf text) p refl k))
 
-      back : (ts : List Placed) × Scanned text ts × RefusedAt text (symbolsOf text ts) p → judgedOf text ≡ refusal 4 p
+      back : (ts : List Placed) × Scanned text ts × RefusedAt text ts p → judgedOf text ≡ refusal 4 p
       back (ts, s, r) =
           let (x, i, q) = refuses text ts (s .lexed) p .1 r in
           scanned-judged s ∙ ap (λ a. byGrammar a text) i ∙ ap (refusal 4) q
 
   -- The tree of a fine text is the one that the grammar derives of its tokens.
-  pub judged-fine : (e : Tree) → judgedOf text ≡ fine e → (ts : List Placed) × Scanned text ts × Derives text expression (symbolsOf text ts) e
+  pub judged-fine : (e : Tree) → judgedOf text ≡ fine e → (ts : List Placed) × Scanned text ts × Derives text expression (symbolsOf ts) e
   judged-fine e h =
       let (ts, s, k) = by-grammar (fine e) (λ e. omega arith) (λ e. omega arith) (λ e. omega arith) h in
       (ts, s, accepts text ts (s .lexed) e .0 (fine-of (parseOf text) e refl k))

@@ -32,7 +32,7 @@ use Rattle.syntax.specs.Parser.{
   wholeFrom,
 }
 use Rattle.syntax.specs.declared.symbol.Symbol.{Symbol}
-use Rattle.syntax.proofs.Grammar.Sound.{Parser, uncons}
+use Rattle.syntax.proofs.Grammar.Lists.{Parser, uncons}
 
 -- an answer that took d of n symbols at least
 abbrev Ample : {A : Type 0} → ℕ → ℕ → Result (List Symbol) A → Type 0

@@ -4,8 +4,8 @@ use mathlib.Core.Bool.{Bool, true}
 use mathlib.Core.List.{List, [], _∷_, _++_}
 use Prim.Native.Nat.{ℕ, suc}
 use native.Mathlib.Omega.{arith}
-use Rattle.tree.specs.Tree.{Tree, Arguments}
-use Rattle.syntax.specs.Symbol.{question, colon, openRound, closeRound, openSquare, closeSquare, comma, dot, word, is, isLiteral, isIndex, isWord, isPrefix, levels, hasPrecedence}
+use Rattle.lexer.specs.Tokens.{Placed, placed}
+use Rattle.syntax.specs.Symbol.{question, colon, openRound, closeRound, openSquare, closeSquare, comma, dot, word, numberOf, is, isLiteral, isIndex, isWord, isPrefix, levels, hasPrecedence}
 use Rattle.syntax.specs.Symbol as symbol
 use Rattle.syntax.specs.Grammar.{
   Level,
@@ -36,9 +36,9 @@ use Rattle.syntax.specs.Grammar.{
   last,
   next,
 }
-use Rattle.syntax.specs.Place.{numbersOf, Right}
+use Rattle.syntax.specs.Place.{symbolsOf, numbersOf, Right}
 use Rattle.syntax.specs.declared.symbol.Symbol.{Symbol}
-use Rattle.syntax.proofs.Grammar.Sound.{made}
+use Rattle.syntax.proofs.Grammar.Lists.{made, by-number}
 
 -- ---- lists with the same numbers
 
@@ -46,11 +46,11 @@ data Like : List Symbol → List Symbol → Type 0 where
   like-none : Like [] []
   like-more : {x y : Symbol} {xs ys : List Symbol} → x .number ≡ y .number → Like xs ys → Like (x ∷ xs) (y ∷ ys)
 
-likes : (xs ys : List Symbol) → numbersOf xs ≡ numbersOf ys → Like xs ys
+likes : (ts us : List Placed) → numbersOf ts ≡ numbersOf us → Like (symbolsOf ts) (symbolsOf us)
 likes [] [] h = like-none
-likes [] (y ∷ ys) h = absurd (let z : _≡_ {A = ℕ} 0 1 = cc in omega arith)
-likes (x ∷ xs) [] h = absurd (let z : _≡_ {A = ℕ} 0 1 = cc in omega arith)
-likes (x ∷ xs) (y ∷ ys) h = like-more (let i : x .number ≡ y .number = cc in i) (likes xs ys (cc))
+likes [] (placed t at until ∷ us) h = absurd (let z : _≡_ {A = ℕ} 0 1 = cc in omega arith)
+likes (placed t at until ∷ ts) [] h = absurd (let z : _≡_ {A = ℕ} 0 1 = cc in omega arith)
+likes (placed t at until ∷ ts) (placed t′ at′ until′ ∷ us) h = like-more (let i : numberOf t ≡ numberOf t′ = cc in i) (likes ts us (cc))
 
 -- what is like two lists, one behind the other, is two lists
 data Cut (xs ys : List Symbol) : List Symbol → Type 0 where
@@ -76,9 +76,8 @@ joining xs x ys h = go (cutting (xs ++ ‹ x ›) ys h)
     go : {zs : List Symbol} → Cut (xs ++ ‹ x ›) ys zs → Joined xs x ys zs
     go (cut a b) = inner (cutting xs ‹ x › a) b
 
--- a test sees the number of a symbol and nothing else
 passes : {n m : ℕ} (test : Symbol → Bool) → n ≡ m → test (made n) ≡ true → test (made m) ≡ true
-passes test e h = subst (λ n. test (made n) ≡ true) e h
+passes test e h = sym (by-number test e) ∙ h
 
 -- ---- the levels
 
@@ -163,6 +162,6 @@ module _ (text text′ : List ℕ) where
   moved (last d) zs l = some (last (moved d zs l .derives))
   moved (next x h d d₁) zs l = next-moved x h (λ zs l. moved d zs l) (λ zs l. moved d₁ zs l) zs l
 
-  -- A right list stays right with other places, and in another text.
-  pub places-free : (xs ys : List Symbol) → numbersOf xs ≡ numbersOf ys → Right text xs → Right text′ ys
-  places-free xs ys h r = let s = moved (r .1) ys (likes xs ys h) in (s .value, s .derives)
+  -- A right list of tokens stays right with other places, and in another text.
+  pub places-free : (ts us : List Placed) → numbersOf ts ≡ numbersOf us → Right text ts → Right text′ us
+  places-free ts us h r = let s = moved (r .1) (symbolsOf us) (likes ts us h) in (s .value, s .derives)

@@ -7,7 +7,7 @@ use lib.ListN.{length}
 use Rattle.tree.specs.Tree.{Tree}
 use Rattle.syntax.specs.Parser.{Result, part, refused, spent, nothing, onPart, andThen, tested, ask, atEnd, wholeFrom}
 use Rattle.syntax.specs.declared.symbol.Symbol.{Symbol}
-use Rattle.syntax.proofs.Grammar.Sound.{Parser, uncons}
+use Rattle.syntax.proofs.Grammar.Lists.{Parser, uncons}
 use Rattle.syntax.proofs.Grammar.Kept.{Le, Kept, whole-kept}
 
 -- the parser has looked into u: no more than u is left

@@ -1,12 +1,15 @@
 -- What the parser takes the grammar derives, and what it took before a refusal begins something right.
-use mathlib.Core.Path.{_≡_, refl}
+use mathlib.Core.Path.{_≡_, refl, ap}
 use mathlib.Core.Bool.{Bool, true, false}
 use mathlib.Core.List.{List, [], _∷_, _++_, append-assoc, append-nil}
 use mathlib.Core.Option.{Option, none, some}
 use Prim.Native.Nat.{ℕ, zero, suc}
+use Rattle.lexer.specs.Tokens.{Placed, placed}
+use Rattle.lexer.specs.declared.token.Token.{Token}
+use Rattle.lexer.specs.declared.token.Token.the-variants.{Number, Word, Punctuator}
 use Rattle.tree.specs.Tree.{Tree, Arguments}
 use Rattle.tree.specs.Tree as tree
-use Rattle.syntax.specs.Symbol.{question, colon, openRound, closeRound, openSquare, closeSquare, comma, dot, word, is, isLiteral, isIndex, isWord, isPrefix, levels, hasPrecedence, functionOf}
+use Rattle.syntax.specs.Symbol.{question, colon, openRound, closeRound, openSquare, closeSquare, comma, dot, word, numberOf, is, isLiteral, isIndex, isWord, isPrefix, levels, hasPrecedence, functionOf}
 use Rattle.syntax.specs.Symbol as symbol
 use Rattle.syntax.specs.Grammar.{
   expression,
@@ -35,6 +38,7 @@ use Rattle.syntax.specs.Grammar.{
   last,
   next,
 }
+use Rattle.syntax.specs.Place.{symbolsOf}
 use Rattle.syntax.specs.Parser.{
   Result,
   part,
@@ -64,21 +68,19 @@ use Rattle.syntax.specs.Parser.{
   wholeFrom,
 }
 use Rattle.syntax.specs.declared.symbol.Symbol.{Symbol}
+use Rattle.syntax.proofs.Grammar.Lists.{Parser, uncons, symbols-append, made}
 
--- ---- over a list of symbols
+-- ---- what is said
 
-abbrev pub Parser : Type 0 → Type 0
-Parser A = List Symbol → Result (List Symbol) A
+-- a token at no place in particular
+abbrev symbolFor : Token → Symbol
+symbolFor t = made (numberOf t)
 
-abbrev pub uncons : List Symbol → Option (Symbol × List Symbol)
-uncons [] = none
-uncons (x ∷ xs) = some (x, xs)
-
--- something of the language P begins with these
+-- there are tokens with which these are something of the language P
 pub record Opens {A : Type 0} (P : List Symbol → A → Type 0) (xs : List Symbol) : Type 0 where
-  pub more : List Symbol
+  pub more : List Placed
   pub value : A
-  pub right : P (xs ++ more) value
+  pub right : P (xs ++ symbolsOf more) value
 
 -- what may be answered of the symbols s
 abbrev pub Fair : {A : Type 0} → (List Symbol → A → Type 0) → List Symbol → Result (List Symbol) A → Type 0
@@ -94,8 +96,8 @@ pub record Sound {A : Type 0} (P : List Symbol → A → Type 0) (p : List Symbo
 -- ---- the pieces
 
 module _ {A : Type 0} {P : List Symbol → A → Type 0} where
-  shorter : (p q : List Symbol) → Opens P (p ++ q) → Opens P p
-  shorter p q o = record { more = q ++ o .more; value = o .value; right = rw (← append-assoc) (o .right) }
+  shorter : (p : List Symbol) (ts : List Placed) → Opens P (p ++ symbolsOf ts) → Opens P p
+  shorter p ts o = record { more = ts ++ o .more; value = o .value; right = rw (symbols-append, ← append-assoc) (o .right) }
 
   whole-of : {p : List Symbol} (a : A) → P p a → Opens P p
   whole-of a d = record { more = []; value = a; right = rw append-nil d }
@@ -131,23 +133,23 @@ module _ {A : Type 0} {P : List Symbol → A → Type 0} where
         go (x ∷ s) = asked x s (test x) refl
 
   module _ {p : List Symbol} {y : Symbol → Parser A} where
-    -- some symbol passes the test, so that what was taken before can be completed
-    s-expect : (test : Symbol → Bool) (x : Symbol) → test x ≡ true → ((x : Symbol) → test x ≡ true → Sound P (p ++ ‹ x ›) (y x)) → Sound P p (expect uncons test y)
-    s-expect test x h a = s-ask test a (s-refused (shorter p ‹ x › (a x h .opens)))
+    -- some token passes the test, so that what was taken before can be completed
+    s-expect : (test : Symbol → Bool) (t : Token) → test (symbolFor t) ≡ true → ((x : Symbol) → test x ≡ true → Sound P (p ++ ‹ x ›) (y x)) → Sound P p (expect uncons test y)
+    s-expect test t h a = s-ask test a (s-refused (shorter p (placed t 0 0 ∷ []) (a (symbolFor t) h .opens)))
 
 module _ {A B : Type 0} (P : List Symbol → A → Type 0) (Q : List Symbol → B → Type 0) (p : List Symbol) (k : A → Parser B) (on : (q : List Symbol) (a : A) → P q a → Sound Q (p ++ q) (k a)) where
   then-fair : (s : List Symbol) (r : Result (List Symbol) A) → Fair P s r → Fair Q (p ++ s) (onPart r k)
   then-fair s (part a r) h = rw (h .1, ← append-assoc) (on (h .0) a (h .2) .fair r)
   then-fair s (refused r) h =
       let o = h .2 in
-      (p ++ h .0, rw (h .1, append-assoc), shorter (p ++ h .0) (o .more) (rw append-assoc (on (h .0 ++ o .more) (o .value) (o .right) .opens)))
+      (p ++ h .0, rw (h .1, append-assoc), shorter (p ++ h .0) (o .more) (rw append-assoc (on (h .0 ++ symbolsOf (o .more)) (o .value) (o .right) .opens)))
   then-fair s spent h = tt
 
 module _ {A B : Type 0} {P : List Symbol → A → Type 0} {Q : List Symbol → B → Type 0} {p : List Symbol} {m : Parser A} {k : A → Parser B} where
   pub s-then : Sound P [] m → ((q : List Symbol) (a : A) → P q a → Sound Q (p ++ q) (k a)) → Sound Q p (andThen m k)
   unfolding andThen
   s-then h on = record {
-    opens = let o = h .opens in shorter p (o .more) (on (o .more) (o .value) (o .right) .opens);
+    opens = let o = h .opens in shorter p (o .more) (on (symbolsOf (o .more)) (o .value) (o .right) .opens);
     fair = λ s. then-fair P Q p k on s (m s) (h .fair s);
   }
 
@@ -166,10 +168,6 @@ module _ {A : Type 0} {P Q : List Symbol → A → Type 0} (up : (q : List Symbo
 
 -- ---- the levels
 
--- a symbol of the number n, at no place in particular
-abbrev pub made : ℕ → Symbol
-made n = record { number = n; at = 0; end = 0 }
-
 module _ (text : List ℕ) where
   -- the branches of a conditional, with the `:` between them
   data Forks : List Symbol → Branches → Type 0 where
@@ -187,23 +185,26 @@ module _ (text : List ℕ) where
   called : (x y : Symbol) (q : List Symbol) (args : Arguments) → is word x ≡ true → is openRound y ≡ true → Closes q args → Derives text primary (‹ x › ++ ‹ y › ++ q) (tree.call (x .at) (functionOf text x) args)
   called x y _ _ h i (closes z j d) = call x y z h i j d
 
-  -- a literal is of every level
+  -- a literal is of every level: `true`
+  abbrev yes : Symbol
+  yes = symbolFor (Word 0)
+
   abbrev one : Tree
-  one = tree.literal 0 0
+  one = tree.literal 0 2
 
-  one-postfix : Derives text postfix ‹ made 26 › one
-  one-postfix = postfix-primary (literal (made 26) refl)
+  one-postfix : Derives text postfix ‹ yes › one
+  one-postfix = postfix-primary (literal yes refl)
 
-  one-binary : (k : ℕ) → Derives text (binary k) ‹ made 26 › one
+  one-binary : (k : ℕ) → Derives text (binary k) ‹ yes › one
   one-binary zero = binary-unary (unary-postfix one-postfix)
   one-binary (suc k) = binary-lower (one-binary k)
 
-  one-expression : Derives text expression ‹ made 26 › one
+  one-expression : Derives text expression ‹ yes › one
   one-expression = expression-binary (one-binary levels)
 
   -- it opens whatever it belongs to
-  opened : {A : Type 0} {P : List Symbol → A → Type 0} (a : A) → P ‹ made 26 › a → Opens P []
-  opened a d = record { more = ‹ made 26 ›; value = a; right = d }
+  opened : {A : Type 0} {P : List Symbol → A → Type 0} (a : A) → P ‹ yes › a → Opens P []
+  opened a d = record { more = placed (Word 0) 0 0 ∷ []; value = a; right = d }
 
   mutual
     unfolding expressionFrom
@@ -214,8 +215,8 @@ module _ (text : List ℕ) where
         s-then (level-sound f levels) (λ cs c d. s-ask (is question) (λ x h. s-then (branches-sound f) (λ q b d′. s-part (fork cs c x q b h d d′))) (s-part (expression-binary d)))
 
     branches-sound : (f : ℕ) → Sound Forks [] (branchesFrom text uncons f)
-    branches-sound zero = s-nothing (record { more = ‹ made 26 › ++ ‹ made 1 › ++ ‹ made 26 ›; value = branches 0 one one; right = forks (made 1) refl one-expression one-expression })
-    branches-sound (suc f) = s-then (expression-sound f) (λ _ _ d. s-expect (is colon) (made 1) refl (λ y i. s-then (expression-sound f) (λ _ _ d′. s-part (forks y i d d′))))
+    branches-sound zero = s-nothing (record { more = placed (Word 0) 0 0 ∷ placed (Punctuator 1) 0 0 ∷ placed (Word 0) 0 0 ∷ []; value = branches 0 one one; right = forks (symbolFor (Punctuator 1)) refl one-expression one-expression })
+    branches-sound (suc f) = s-then (expression-sound f) (λ _ _ d. s-expect (is colon) (Punctuator 1) refl (λ y i. s-then (expression-sound f) (λ _ _ d′. s-part (forks y i d d′))))
 
     level-sound : (f k : ℕ) → Sound (Derives text (binary k)) [] (levelFrom text uncons f k)
     level-sound zero k = s-nothing (opened one (one-binary k))
@@ -237,24 +238,24 @@ module _ (text : List ℕ) where
     picks-sound : (f : ℕ) {p : List Symbol} {e : Tree} → Derives text postfix p e → Sound (Derives text postfix) p (picksFrom text uncons f e)
     picks-sound zero {p} {e} d = s-nothing (whole-of e d)
     picks-sound (suc f) d =
-        s-ask (is dot) (λ x h. s-expect isWord (made 34) refl (λ y i. picks-sound f (member x y h i d)))
-        (s-ask (is openSquare) (λ x h. s-expect isIndex (made 22) refl (λ y i. s-expect (is closeSquare) (made 19) refl (λ z j. picks-sound f (index x y z h i j d))))
+        s-ask (is dot) (λ x h. s-expect isWord (Word 0) refl (λ y i. picks-sound f (member x y h i d)))
+        (s-ask (is openSquare) (λ x h. s-expect isIndex (Number 0 0) refl (λ y i. s-expect (is closeSquare) (Punctuator 19) refl (λ z j. picks-sound f (index x y z h i j d))))
         (s-part d))
 
     primary-sound : (f : ℕ) → Sound (Derives text primary) [] (primaryFrom text uncons f)
-    primary-sound zero = s-nothing (opened one (literal (made 26) refl))
+    primary-sound zero = s-nothing (opened one (literal yes refl))
     primary-sound (suc f) =
         s-ask isLiteral (λ x h. s-part (literal x h))
         (s-ask (is symbol.variable) (λ x h. s-part (variable x h))
-        (s-ask (is openRound) (λ x h. s-then (expression-sound f) (λ _ _ d. s-expect (is closeRound) (made 17) refl (λ y i. s-part (brackets x y h i d))))
-        (s-ask (is word) (λ x h. call-sound f x h) (s-refused (opened one (literal (made 26) refl))))))
+        (s-ask (is openRound) (λ x h. s-then (expression-sound f) (λ _ _ d. s-expect (is closeRound) (Punctuator 17) refl (λ y i. s-part (brackets x y h i d))))
+        (s-ask (is word) (λ x h. call-sound f x h) (s-refused (opened one (literal yes refl))))))
 
     call-sound : (f : ℕ) (x : Symbol) → is word x ≡ true → Sound (Derives text primary) ‹ x › (callFrom text uncons f x)
-    call-sound zero x h = s-nothing (record { more = ‹ made 16 › ++ ‹ made 17 ›; value = _; right = bare x (made 16) (made 17) h refl refl })
+    call-sound zero x h = s-nothing (record { more = placed (Punctuator 16) 0 0 ∷ placed (Punctuator 17) 0 0 ∷ []; value = _; right = bare x (symbolFor (Punctuator 16)) (symbolFor (Punctuator 17)) h refl refl })
     call-sound (suc f) x h =
-        s-expect (is openRound) (made 16) refl (λ y i.
+        s-expect (is openRound) (Punctuator 16) refl (λ y i.
         s-ask (is closeRound) (λ z j. s-part (bare x y z h i j))
-        (s-then (s-then (arguments-sound f) (λ _ _ d. s-expect (is closeRound) (made 17) refl (λ z j. s-part (closes z j d)))) (λ q args d. s-part (called x y q args h i d))))
+        (s-then (s-then (arguments-sound f) (λ _ _ d. s-expect (is closeRound) (Punctuator 17) refl (λ z j. s-part (closes z j d)))) (λ q args d. s-part (called x y q args h i d))))
 
     arguments-sound : (f : ℕ) → Sound (Derives text arguments) [] (argumentsFrom text uncons f)
     arguments-sound zero = s-nothing (opened (tree.last one) (last one-expression))

@@ -19,7 +19,7 @@ use Rattle.syntax.specs.Place.{symbolsOf, placeOf}
 use Rattle.syntax.specs.Parser.{Result, part, refused, spent, onPart, andThen, tested, ask, atEnd, wholeFrom, inText}
 use Rattle.syntax.specs.declared.symbol.Symbol.{Symbol}
 use Rattle.syntax.proofs.Law.Symbols.{number-end}
-use Rattle.syntax.proofs.Grammar.Sound.{Parser, uncons}
+use Rattle.syntax.proofs.Grammar.Lists.{Parser, uncons}
 use Rattle.syntax.proofs.Grammar.Kept.{Le, Kept, whole-kept}
 
 module _ (text : List ℕ) where
@@ -30,9 +30,9 @@ module _ (text : List ℕ) where
     ends : {x : Symbol} → is end x ≡ true → x .at ≡ length text → Streams x []
     goes : {x : Symbol} {xs : List Symbol} → is end x ≡ false → Streams (symbolAt text (x .end)) xs → Streams x (x ∷ xs)
 
-  pub stream-place : {x : Symbol} {xs : List Symbol} → Streams x xs → x .at ≡ placeOf text xs
-  stream-place (ends e p) = p
-  stream-place (goes e h) = refl
+  pub stream-place : {x : Symbol} (ts : List Placed) → Streams x (symbolsOf ts) → x .at ≡ placeOf text ts
+  stream-place [] (ends e p) = p
+  stream-place (placed t at until ∷ ts) (goes e h) = refl
 
   -- the list's answer, where it is not that no steps are left, and the text's
   pub data Alike {A : Type 0} : Result (List Symbol) A → Result Symbol A → Type 0 where
@@ -94,15 +94,15 @@ module _ (text : List ℕ) where
     pub symbols : List Symbol
     pub streams : Streams x symbols
     pub few : length symbols + from ≤ length text
-    pub tokens-are : (ts : List Placed) → tokensFrom text from ≡ tokens ts → symbols ≡ symbolsOf text ts
+    pub tokens-are : (ts : List Placed) → tokensFrom text from ≡ tokens ts → symbols ≡ symbolsOf ts
 
   -- a token, and then the others
-  found-are : (t : Token) (at until : ℕ) (xs : List Symbol) (rest : Lexed) → ((ts : List Placed) → rest ≡ tokens ts → xs ≡ symbolsOf text ts) →
-      (ts : List Placed) → after (placed t at until) rest ≡ tokens ts → symbolOf text (Found t at until) ∷ xs ≡ symbolsOf text ts
+  found-are : (t : Token) (at until : ℕ) (xs : List Symbol) (rest : Lexed) → ((ts : List Placed) → rest ≡ tokens ts → xs ≡ symbolsOf ts) →
+      (ts : List Placed) → after (placed t at until) rest ≡ tokens ts → symbolOf text (Found t at until) ∷ xs ≡ symbolsOf ts
   found-are t at until xs (tokens ts′) h ts e = go ts e
     where
-      go : (ts : List Placed) → tokens (placed t at until ∷ ts′) ≡ tokens ts → symbolOf text (Found t at until) ∷ xs ≡ symbolsOf text ts
-      go ts e = ap (λ r. symbolOf text (Found t at until) ∷ r) (h ts′ refl) ∙ ap (λ r. symbolsOf text r) (let i : placed t at until ∷ ts′ ≡ ts = cc in i)
+      go : (ts : List Placed) → tokens (placed t at until ∷ ts′) ≡ tokens ts → symbolOf text (Found t at until) ∷ xs ≡ symbolsOf ts
+      go ts e = ap (λ r. symbolOf text (Found t at until) ∷ r) (h ts′ refl) ∙ ap (λ r. symbolsOf r) (let i : placed t at until ∷ ts′ ≡ ts = cc in i)
   found-are t at until xs (badAt p) h ts e = cc
 
   listed-as : (from : ℕ) (x : Lexeme) → lexemeAt text from ≡ x → Ahead from (length text) x → from ≤ length text →
@@ -127,7 +127,7 @@ module _ (text : List ℕ) where
     symbols = [];
     streams = ends refl refl;
     few = omega arith;
-    tokens-are = λ ts h. ap (λ r. symbolsOf text r) (let b = on-end text from e in let i : [] ≡ ts = cc in i);
+    tokens-are = λ ts h. ap (λ r. symbolsOf r) (let b = on-end text from e in let i : [] ≡ ts = cc in i);
   }
 
   listed-in : (f from : ℕ) → from ≤ length text → length text < f + from → Listed from (symbolAt text from)
