@@ -5,7 +5,7 @@ use mathlib.Core.Bool.{Bool, true, false}
 use mathlib.Core.List.{List, [], _∷_}
 use Prim.Native.Nat.{ℕ, suc, _-_}
 use lib.Dec.{ltb}
-use Rattle.lexer.specs.Tokens.{Placed, placed, Lexed, tokens, badAt, tokensFrom, tokensOf}
+use Rattle.lexer.specs.Tokens.{Placed, placed, Lexed, tokens, badAt, tokensOf}
 use Rattle.lexer.specs.Scan.{bracketOf, bracketsIn, verdictOf, scanOf}
 use Rattle.lexer.specs.declared.scan.Bracket.{Bracket}
 use Rattle.lexer.specs.declared.scan.Bracket.the-variants.{Opens, Closes, Neither}

@@ -1,9 +1,11 @@
 -- The place of a refusal 4: page 01, "Refusal numbers": "the first token no right expression can have there, or the end".
 use mathlib.Core.Path.{_≡_}
 use mathlib.Core.List.{List, [], _∷_, _++_}
-use Prim.Native.Nat.{ℕ}
+use Prim.Native.Nat.{ℕ, _≤_}
 use lib.ListN.{length}
-use Rattle.lexer.specs.Tokens.{Placed, placed}
+use Rattle.lexer.specs.Tokens.{Placed, placed, tokens, tokensOf}
+use Rattle.lexer.specs.Scan.{scanOf}
+use Rattle.lexer.specs.declared.scan.Verdict.the-variants.{Fine}
 use Rattle.tree.specs.Tree.{Tree}
 use Rattle.syntax.specs.Symbol.{numberOf}
 use Rattle.syntax.specs.Grammar.{expression, Derives}
@@ -47,3 +49,9 @@ module _ (text : List ℕ) where
 
   abbrev pub RefusedAt : List Placed → ℕ → Type 0
   RefusedAt ts place = (rest : List Placed) × Refused ts rest × (place ≡ placeOf rest)
+
+  -- The checks before the grammar's are passed, 1 by the size and 2 and 3 by the scan, and these are the tokens.
+  pub record Scanned (ts : List Placed) : Type 0 where
+    pub short : length text ≤ 1024
+    pub fine : scanOf text ≡ Fine
+    pub lexed : tokensOf text ≡ tokens ts

@@ -7,9 +7,9 @@ use native.Mathlib.Omega.{arith}
 use lib.Dec.{eqb, leb}
 use lib.ListN.{length, length-append}
 use borrow.Author.Tests.{eqb-true, ne-eqb, leb-true}
-use Rattle.tree.specs.Tree.{Tree, Arguments}
+use Rattle.tree.specs.Tree.{Tree}
 use Rattle.tree.specs.Tree as tree
-use Rattle.syntax.specs.Symbol.{question, colon, openRound, closeRound, openSquare, closeSquare, comma, dot, word, is, isLiteral, isIndex, indexOf, isWord, isPrefix, precedenceOf, levels, hasPrecedence, memberOf}
+use Rattle.syntax.specs.Symbol.{question, colon, openRound, closeRound, openSquare, closeSquare, comma, dot, word, is, isLiteral, isIndex, isWord, isPrefix, precedenceOf, levels, hasPrecedence}
 use Rattle.syntax.specs.Symbol as symbol
 use Rattle.syntax.specs.Grammar.{
   Level,
@@ -43,10 +43,8 @@ use Rattle.syntax.specs.Grammar.{
 use Rattle.syntax.specs.Parser.{
   Result,
   part,
-  refused,
   andThen,
   ask,
-  branches,
   expressionFrom,
   branchesFrom,
   levelFrom,
@@ -260,8 +258,8 @@ module _ (text : List ℕ) where
             let l₁ = past xs (x ∷ t) l in
             then-part _ (level-whole xs _ (x ∷ t) 6 (complete d) (omega arith) .takes f (omega arith))
             (yes (is question) _ _ h (then-part _ (stepped {c = 11} (branchesFrom text uncons) (λ g k.
-                let k₁ = past ys (y ∷ (zs ++ r)) k in
-                then-part _ (complete d₁ (y ∷ (zs ++ r)) (omega arith) .takes g (omega arith)) (yes (is colon) _ _ i (then-part _ (complete d₂ r n .takes g (omega arith)) (given refl)))) f (omega arith)) (given refl))));
+            let k₁ = past ys (y ∷ (zs ++ r)) k in
+            then-part _ (complete d₁ (y ∷ (zs ++ r)) (omega arith) .takes g (omega arith)) (yes (is colon) _ _ i (then-part _ (complete d₂ r n .takes g (omega arith)) (given refl)))) f (omega arith)) (given refl))));
       })
   complete (binary-unary d) = λ r n. record { takes = stepped (λ f. levelFrom text uncons f 0) (λ f l. complete d r n .takes f (omega arith)) }
   complete (binary-lower {k} {xs} {e} d) = λ r n. first xs (omega arith) (omega arith) (λ f. refl) (level-whole xs e r k (complete d) n)

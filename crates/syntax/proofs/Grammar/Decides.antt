@@ -13,7 +13,7 @@ use Rattle.syntax.specs.Parser.{Result, part, refused, spent, onPart, an
 use Rattle.syntax.specs.declared.symbol.Symbol.{Symbol}
 use Rattle.syntax.proofs.Law.Steps.{given, then-part}
 use Rattle.syntax.proofs.Grammar.Lists.{uncons, symbols-append}
-use Rattle.syntax.proofs.Grammar.Sound.{Fair, Sound, s-then, s-end, expression-sound}
+use Rattle.syntax.proofs.Grammar.Sound.{Fair, Sound, sound-then, sound-end, expression-sound}
 use Rattle.syntax.proofs.Grammar.Kept.{le-of}
 use Rattle.syntax.proofs.Grammar.Same.{Gone, Out, parts, refusals, gone, same-at, whole-same}
 use Rattle.syntax.proofs.Grammar.Complete.{completed}
@@ -31,7 +31,7 @@ module _ (text : List ℕ) where
   -- ---- what is right
 
   whole-fair : (f : ℕ) (xs : List Symbol) → Fair (Derives text expression) xs (wholeFrom text uncons f xs)
-  whole-fair f xs = let w : Sound (Derives text expression) [] (wholeFrom text uncons f) = s-then (expression-sound text f) (λ _ e d. s-end e d) in w .fair xs
+  whole-fair f xs = let w : Sound (Derives text expression) [] (wholeFrom text uncons f) = sound-then (expression-sound text f) (λ _ e d. sound-end e d) in w .fair xs
 
   whole-ends : (a : Result (List Symbol) Tree) (e : Tree) (r : List Symbol) → onPart a (atEnd uncons) ≡ part e r → r ≡ []
   unfolding atEnd
@@ -119,10 +119,13 @@ module _ (text : List ℕ) where
   refused-where f ts r l h =
       let w = subst (λ a. Fair (Derives text expression) (symbolsOf ts) a) h (whole-fair f (symbolsOf ts)) in
       let o = w .2 in
-      let s = split ts (w .0) r (w .1) in
-      (s .right, record {
-        taken = s .left;
-        are = s .are;
-        begins = (o .more, (o .value, rw (symbols-append, s .lefts) (o .right)));
-        never = never-here f (s .left) (s .right) (rw (← s .are) l) (rw (← s .are, s .rights) h);
-      }, s .rights)
+      let s = split ts (w .0) r (w .1) in (
+        s .right,
+        record {
+          taken = s .left;
+          are = s .are;
+          begins = (o .more, (o .value, rw (symbols-append, s .lefts) (o .right)));
+          never = never-here f (s .left) (s .right) (rw (← s .are) l) (rw (← s .are, s .rights) h);
+        },
+        s .rights,
+      )

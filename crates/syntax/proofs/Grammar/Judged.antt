@@ -1,7 +1,7 @@
 -- The number 4 and its place, by the grammar.
-use mathlib.Core.Path.{_≡_, refl, ap, sym, subst, _∙_}
+use mathlib.Core.Path.{_≡_, refl, ap, sym, _∙_}
 use mathlib.Core.Logic.{_⊎_, inl, inr, _↔_}
-use mathlib.Core.Bool.{Bool, true, false}
+use mathlib.Core.Bool.{Bool, true, false, cond}
 use mathlib.Core.List.{List}
 use Prim.Native.Nat.{ℕ, _≤_}
 use native.Mathlib.Omega.{arith}
@@ -15,26 +15,22 @@ use Rattle.lexer.specs.declared.scan.Verdict.the-variants as scan
 use Rattle.lexer.proofs.Refusals.{With, scan-says}
 use Rattle.tree.specs.Tree.{Tree}
 use Rattle.syntax.specs.Grammar.{expression, Derives}
-use Rattle.syntax.specs.Place.{symbolsOf, RefusedAt}
+use Rattle.syntax.specs.Place.{symbolsOf, RefusedAt, Scanned}
 use Rattle.syntax.specs.Parser.{Result, part, refused, spent, parseOf}
 use Rattle.syntax.specs.Height.{heightOf}
 use Rattle.syntax.specs.Names.{unknownIn, leftmostOf}
-use Rattle.syntax.specs.Judge.{Judged, fine, refusal, byNames, byHeight, byGrammar, byTokens, bySize, judgedOf}
+use Rattle.syntax.specs.Judge.{Judged, fine, refusal, byNames, byHeight, byGrammar, byTokens, bySize, judgedOf, answered, answerOf}
 use Rattle.syntax.specs.declared.symbol.Symbol.{Symbol}
 use Rattle.syntax.specs.declared.names.Leftmost.{Leftmost}
 use Rattle.syntax.specs.declared.names.Leftmost.the-variants.{At, Nothing}
+use Rattle.syntax.specs.declared.judge.Judgement.{Judgement}
+use Rattle.syntax.specs.declared.judge.Judgement.the-variants.{Fine, Refused}
 use Rattle.syntax.proofs.Grammar.Text.{never-spent, accepts, refuses}
 
 -- a refusal's number; 0 for none
 abbrev numberOf : Judged → ℕ
 numberOf (fine e) = 0
 numberOf (refusal n p) = n
-
--- the checks before the grammar have passed, and these are the text's tokens
-pub record Scanned (text : List ℕ) (ts : List Placed) : Type 0 where
-  pub short : length text ≤ 1024
-  pub fine : scanOf text ≡ scan.Fine
-  pub lexed : tokensOf text ≡ tokens ts
 
 module _ (text : List ℕ) where
   names-number : (l : Leftmost) (e : Tree) → numberOf (byNames l e) ≡ 4 → ⊥
@@ -104,3 +100,24 @@ module _ (text : List ℕ) where
   judged-fine e h =
       let (ts, s, k) = by-grammar (fine e) (λ e. omega arith) (λ e. omega arith) (λ e. omega arith) h in
       (ts, s, accepts text ts (s .lexed) e .0 (fine-of (parseOf text) e refl k))
+
+  -- ---- what `judge` answers
+
+  module _ (slots p : ℕ) where
+    answered-so : (j : Judged) → answered j ≡ Refused 4 p → j ≡ refusal 4 p
+    answered-so (fine e) h = absurd (let z : _≡_ {A = ℕ} 0 1 = cc in omega arith)
+    answered-so (refusal n q) h = let i : n ≡ 4 = cc in let j : q ≡ p = cc in cc
+
+    by-room : (b : Bool) → ltb slots (length text) ≡ b → cond b (Refused 10 0) (answered (judgedOf text)) ≡ Refused 4 p → (length text ≤ slots) × (judgedOf text ≡ refusal 4 p)
+    by-room true e h = absurd (let z : _≡_ {A = ℕ} 10 4 = cc in omega arith)
+    by-room false e h = (ltb-false slots (length text) e, answered-so (judgedOf text) h)
+
+    -- The call answers 4 at a place exactly if there is room, the checks before have passed and the grammar refuses the text's tokens there.
+    pub answered-four : (answerOf slots text ≡ Refused 4 p) ↔ ((length text ≤ slots) × ((ts : List Placed) × Scanned text ts × RefusedAt text ts p))
+    answered-four = (onto, back)
+      where
+        onto : answerOf slots text ≡ Refused 4 p → (length text ≤ slots) × ((ts : List Placed) × Scanned text ts × RefusedAt text ts p)
+        onto h = let (l, i) = by-room (ltb slots (length text)) refl h in (l, judged-four p .0 i)
+
+        back : (length text ≤ slots) × ((ts : List Placed) × Scanned text ts × RefusedAt text ts p) → answerOf slots text ≡ Refused 4 p
+        back (l, r) = ap (λ b. cond b (Refused 10 0) (answered (judgedOf text))) (le-ltb slots (length text) l) ∙ ap answered (judged-four p .1 r)

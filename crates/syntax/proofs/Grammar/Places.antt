@@ -1,5 +1,5 @@
 -- Places do not matter to the grammar: a right list stays right with other places, and in another text.
-use mathlib.Core.Path.{_≡_, refl, ap, sym, subst, _∙_}
+use mathlib.Core.Path.{_≡_, refl, ap, sym, _∙_}
 use mathlib.Core.Bool.{Bool, true}
 use mathlib.Core.List.{List, [], _∷_, _++_}
 use Prim.Native.Nat.{ℕ, suc}
@@ -11,7 +11,6 @@ use Rattle.syntax.specs.Grammar.{
   Level,
   expression,
   binary,
-  unary,
   postfix,
   primary,
   arguments,
@@ -36,7 +35,7 @@ use Rattle.syntax.specs.Grammar.{
   last,
   next,
 }
-use Rattle.syntax.specs.Place.{symbolsOf, numbersOf, Right}
+use Rattle.syntax.specs.Place.{symbolsOf, numbersOf, Right, Begins}
 use Rattle.syntax.specs.declared.symbol.Symbol.{Symbol}
 use Rattle.syntax.proofs.Grammar.Lists.{made, by-number}
 
@@ -51,6 +50,10 @@ likes [] [] h = like-none
 likes [] (placed t at until ∷ us) h = absurd (let z : _≡_ {A = ℕ} 0 1 = cc in omega arith)
 likes (placed t at until ∷ ts) [] h = absurd (let z : _≡_ {A = ℕ} 0 1 = cc in omega arith)
 likes (placed t at until ∷ ts) (placed t′ at′ until′ ∷ us) h = like-more (let i : numberOf t ≡ numberOf t′ = cc in i) (likes ts us (cc))
+
+numbers-append : (ts us : List Placed) → numbersOf (ts ++ us) ≡ numbersOf ts ++ numbersOf us
+numbers-append [] us = refl
+numbers-append (placed t at until ∷ ts) us = ap (λ ns. numberOf t ∷ ns) (numbers-append ts us)
 
 -- what is like two lists, one behind the other, is two lists
 data Cut (xs ys : List Symbol) : List Symbol → Type 0 where
@@ -165,3 +168,7 @@ module _ (text text′ : List ℕ) where
   -- A right list of tokens stays right with other places, and in another text.
   pub places-free : (ts us : List Placed) → numbersOf ts ≡ numbersOf us → Right text ts → Right text′ us
   places-free ts us h r = let s = moved (r .1) (symbolsOf us) (likes ts us h) in (s .value, s .derives)
+
+  -- So does what begins one.
+  pub begins-free : (ts us : List Placed) → numbersOf ts ≡ numbersOf us → Begins text ts → Begins text′ us
+  begins-free ts us h (cs, r) = (cs, places-free (ts ++ cs) (us ++ cs) (numbers-append ts cs ∙ ap (λ ns. ns ++ numbersOf cs) h ∙ sym (numbers-append us cs)) r)

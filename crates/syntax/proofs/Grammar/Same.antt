@@ -5,7 +5,7 @@ use Prim.Native.Nat.{ℕ, _≤_}
 use native.Mathlib.Omega.{arith}
 use lib.ListN.{length}
 use Rattle.tree.specs.Tree.{Tree}
-use Rattle.syntax.specs.Parser.{Result, part, refused, spent, nothing, onPart, andThen, tested, ask, atEnd, wholeFrom}
+use Rattle.syntax.specs.Parser.{Result, part, refused, spent, onPart, andThen, tested, ask, atEnd, wholeFrom}
 use Rattle.syntax.specs.declared.symbol.Symbol.{Symbol}
 use Rattle.syntax.proofs.Grammar.Lists.{Parser, uncons}
 use Rattle.syntax.proofs.Grammar.Kept.{Le, Kept, whole-kept}
@@ -76,10 +76,10 @@ whole-same {u} {v} text h = whole-kept text (same-kept u v) h
   where
     same-kept : (u v : List Symbol) → Kept uncons uncons (Same u v)
     same-kept u v = record {
-      k-part = λ {A} {a}. record { past = λ s h. h; same = λ x q. parts a x q };
-      k-refused = record { past = λ s h. h; same = λ x q. refusals x q };
-      k-nothing = λ {A} {n}. record { past = λ s h. tt; same = λ x q. gone spent (n (x ∷ (q ++ v))) tt };
-      k-end = λ a. same-end a;
-      k-then = λ a b. same-then b a;
-      k-ask = λ test a b. same-ask test a b;
+      kept-part = λ {A} {a}. record { past = λ s h. h; same = λ x q. parts a x q };
+      kept-refused = record { past = λ s h. h; same = λ x q. refusals x q };
+      kept-nothing = λ {A} {n}. record { past = λ s h. tt; same = λ x q. gone spent (n (x ∷ (q ++ v))) tt };
+      kept-end = λ a. same-end a;
+      kept-then = λ a b. same-then b a;
+      kept-ask = λ test a b. same-ask test a b;
     }

@@ -1,8 +1,7 @@
 -- What the parser takes the grammar derives, and what it took before a refusal begins something right.
-use mathlib.Core.Path.{_≡_, refl, ap}
+use mathlib.Core.Path.{_≡_, refl}
 use mathlib.Core.Bool.{Bool, true, false}
 use mathlib.Core.List.{List, [], _∷_, _++_, append-assoc, append-nil}
-use mathlib.Core.Option.{Option, none, some}
 use Prim.Native.Nat.{ℕ, zero, suc}
 use Rattle.lexer.specs.Tokens.{Placed, placed}
 use Rattle.lexer.specs.declared.token.Token.{Token}
@@ -51,7 +50,6 @@ use Rattle.syntax.specs.Parser.{
   ask,
   expect,
   atEnd,
-  closed,
   Branches,
   branches,
   chosen,
@@ -65,7 +63,6 @@ use Rattle.syntax.specs.Parser.{
   primaryFrom,
   callFrom,
   argumentsFrom,
-  wholeFrom,
 }
 use Rattle.syntax.specs.declared.symbol.Symbol.{Symbol}
 use Rattle.syntax.proofs.Grammar.Lists.{Parser, uncons, symbols-append, made}
@@ -102,27 +99,27 @@ module _ {A : Type 0} {P : List Symbol → A → Type 0} where
   whole-of : {p : List Symbol} (a : A) → P p a → Opens P p
   whole-of a d = record { more = []; value = a; right = rw append-nil d }
 
-  s-part : {p : List Symbol} {a : A} → P p a → Sound P p (part a)
-  s-part {p} {a} d = record { opens = whole-of a d; fair = λ s. (p, refl, d) }
+  sound-part : {p : List Symbol} {a : A} → P p a → Sound P p (part a)
+  sound-part {p} {a} d = record { opens = whole-of a d; fair = λ s. (p, refl, d) }
 
-  s-refused : {p : List Symbol} → Opens P p → Sound P p refused
-  s-refused {p} o = record { opens = o; fair = λ s. (p, refl, o) }
+  sound-refused : {p : List Symbol} → Opens P p → Sound P p refused
+  sound-refused {p} o = record { opens = o; fair = λ s. (p, refl, o) }
 
-  s-nothing : {p : List Symbol} → Opens P p → Sound P p nothing
-  s-nothing o = record { opens = o; fair = λ s. tt }
+  sound-nothing : {p : List Symbol} → Opens P p → Sound P p nothing
+  sound-nothing o = record { opens = o; fair = λ s. tt }
 
-  pub s-end : {p : List Symbol} (a : A) → P p a → Sound P p (atEnd uncons a)
+  pub sound-end : {p : List Symbol} (a : A) → P p a → Sound P p (atEnd uncons a)
   unfolding atEnd
-  s-end {p} a d = record { opens = whole-of a d; fair = go }
+  sound-end {p} a d = record { opens = whole-of a d; fair = go }
     where
       go : (s : List Symbol) → Fair P (p ++ s) (atEnd uncons a s)
       go [] = (p, refl, d)
       go (x ∷ s) = (p, refl, whole-of a d)
 
   module _ {p : List Symbol} {y : Symbol → Parser A} {n : Parser A} where
-    s-ask : (test : Symbol → Bool) → ((x : Symbol) → test x ≡ true → Sound P (p ++ ‹ x ›) (y x)) → Sound P p n → Sound P p (ask uncons test y n)
+    sound-ask : (test : Symbol → Bool) → ((x : Symbol) → test x ≡ true → Sound P (p ++ ‹ x ›) (y x)) → Sound P p n → Sound P p (ask uncons test y n)
     unfolding ask
-    s-ask test a b = record { opens = b .opens; fair = go }
+    sound-ask test a b = record { opens = b .opens; fair = go }
       where
         asked : (x : Symbol) (s : List Symbol) (w : Bool) → test x ≡ w → Fair P (p ++ (x ∷ s)) (tested w (λ _. y x s) (λ _. n (x ∷ s)))
         asked x s true e = rw (← append-assoc p ‹ x › s) (a x e .fair s)
@@ -134,8 +131,8 @@ module _ {A : Type 0} {P : List Symbol → A → Type 0} where
 
   module _ {p : List Symbol} {y : Symbol → Parser A} where
     -- some token passes the test, so that what was taken before can be completed
-    s-expect : (test : Symbol → Bool) (t : Token) → test (symbolFor t) ≡ true → ((x : Symbol) → test x ≡ true → Sound P (p ++ ‹ x ›) (y x)) → Sound P p (expect uncons test y)
-    s-expect test t h a = s-ask test a (s-refused (shorter p (placed t 0 0 ∷ []) (a (symbolFor t) h .opens)))
+    sound-expect : (test : Symbol → Bool) (t : Token) → test (symbolFor t) ≡ true → ((x : Symbol) → test x ≡ true → Sound P (p ++ ‹ x ›) (y x)) → Sound P p (expect uncons test y)
+    sound-expect test t h a = sound-ask test a (sound-refused (shorter p (placed t 0 0 ∷ []) (a (symbolFor t) h .opens)))
 
 module _ {A B : Type 0} (P : List Symbol → A → Type 0) (Q : List Symbol → B → Type 0) (p : List Symbol) (k : A → Parser B) (on : (q : List Symbol) (a : A) → P q a → Sound Q (p ++ q) (k a)) where
   then-fair : (s : List Symbol) (r : Result (List Symbol) A) → Fair P s r → Fair Q (p ++ s) (onPart r k)
@@ -146,9 +143,9 @@ module _ {A B : Type 0} (P : List Symbol → A → Type 0) (Q : List Symbol → 
   then-fair s spent h = tt
 
 module _ {A B : Type 0} {P : List Symbol → A → Type 0} {Q : List Symbol → B → Type 0} {p : List Symbol} {m : Parser A} {k : A → Parser B} where
-  pub s-then : Sound P [] m → ((q : List Symbol) (a : A) → P q a → Sound Q (p ++ q) (k a)) → Sound Q p (andThen m k)
+  pub sound-then : Sound P [] m → ((q : List Symbol) (a : A) → P q a → Sound Q (p ++ q) (k a)) → Sound Q p (andThen m k)
   unfolding andThen
-  s-then h on = record {
+  sound-then h on = record {
     opens = let o = h .opens in shorter p (o .more) (on (symbolsOf (o .more)) (o .value) (o .right) .opens);
     fair = λ s. then-fair P Q p k on s (m s) (h .fair s);
   }
@@ -163,8 +160,8 @@ module _ {A : Type 0} {P Q : List Symbol → A → Type 0} (up : (q : List Symbo
   up-fair s (refused r) h = (h .0, h .1, up-opens (h .2))
   up-fair s spent h = tt
 
-  s-up : {p : List Symbol} {m : Parser A} → Sound P p m → Sound Q p m
-  s-up {p} {m} h = record { opens = up-opens (h .opens); fair = λ s. up-fair (p ++ s) (m s) (h .fair s) }
+  sound-up : {p : List Symbol} {m : Parser A} → Sound P p m → Sound Q p m
+  sound-up {p} {m} h = record { opens = up-opens (h .opens); fair = λ s. up-fair (p ++ s) (m s) (h .fair s) }
 
 -- ---- the levels
 
@@ -210,53 +207,53 @@ module _ (text : List ℕ) where
     unfolding expressionFrom
 
     pub expression-sound : (f : ℕ) → Sound (Derives text expression) [] (expressionFrom text uncons f)
-    expression-sound zero = s-nothing (opened one one-expression)
+    expression-sound zero = sound-nothing (opened one one-expression)
     expression-sound (suc f) =
-        s-then (level-sound f levels) (λ cs c d. s-ask (is question) (λ x h. s-then (branches-sound f) (λ q b d′. s-part (fork cs c x q b h d d′))) (s-part (expression-binary d)))
+        sound-then (level-sound f levels) (λ cs c d. sound-ask (is question) (λ x h. sound-then (branches-sound f) (λ q b d′. sound-part (fork cs c x q b h d d′))) (sound-part (expression-binary d)))
 
     branches-sound : (f : ℕ) → Sound Forks [] (branchesFrom text uncons f)
-    branches-sound zero = s-nothing (record { more = placed (Word 0) 0 0 ∷ placed (Punctuator 1) 0 0 ∷ placed (Word 0) 0 0 ∷ []; value = branches 0 one one; right = forks (symbolFor (Punctuator 1)) refl one-expression one-expression })
-    branches-sound (suc f) = s-then (expression-sound f) (λ _ _ d. s-expect (is colon) (Punctuator 1) refl (λ y i. s-then (expression-sound f) (λ _ _ d′. s-part (forks y i d d′))))
+    branches-sound zero = sound-nothing (record { more = placed (Word 0) 0 0 ∷ placed (Punctuator 1) 0 0 ∷ placed (Word 0) 0 0 ∷ []; value = branches 0 one one; right = forks (symbolFor (Punctuator 1)) refl one-expression one-expression })
+    branches-sound (suc f) = sound-then (expression-sound f) (λ _ _ d. sound-expect (is colon) (Punctuator 1) refl (λ y i. sound-then (expression-sound f) (λ _ _ d′. sound-part (forks y i d d′))))
 
     level-sound : (f k : ℕ) → Sound (Derives text (binary k)) [] (levelFrom text uncons f k)
-    level-sound zero k = s-nothing (opened one (one-binary k))
-    level-sound (suc f) zero = s-up (λ _ _ d. binary-unary d) (unary-sound f)
-    level-sound (suc f) (suc k) = s-then (level-sound f k) (λ _ _ d. tail-sound f k (binary-lower d))
+    level-sound zero k = sound-nothing (opened one (one-binary k))
+    level-sound (suc f) zero = sound-up (λ _ _ d. binary-unary d) (unary-sound f)
+    level-sound (suc f) (suc k) = sound-then (level-sound f k) (λ _ _ d. tail-sound f k (binary-lower d))
 
     tail-sound : (f k : ℕ) {p : List Symbol} {e : Tree} → Derives text (binary (suc k)) p e → Sound (Derives text (binary (suc k))) p (tailFrom text uncons f k e)
-    tail-sound zero k {p} {e} d = s-nothing (whole-of e d)
-    tail-sound (suc f) k d = s-ask (hasPrecedence (suc k)) (λ x h. s-then (level-sound f k) (λ _ _ d′. tail-sound f k (operation x h d d′))) (s-part d)
+    tail-sound zero k {p} {e} d = sound-nothing (whole-of e d)
+    tail-sound (suc f) k d = sound-ask (hasPrecedence (suc k)) (λ x h. sound-then (level-sound f k) (λ _ _ d′. tail-sound f k (operation x h d d′))) (sound-part d)
 
     unary-sound : (f : ℕ) → Sound (Derives text unary) [] (unaryFrom text uncons f)
-    unary-sound zero = s-nothing (opened one (unary-postfix one-postfix))
-    unary-sound (suc f) = s-ask isPrefix (λ x h. s-then (unary-sound f) (λ _ _ d. s-part (sign x h d))) (s-up (λ _ _ d. unary-postfix d) (postfix-sound f))
+    unary-sound zero = sound-nothing (opened one (unary-postfix one-postfix))
+    unary-sound (suc f) = sound-ask isPrefix (λ x h. sound-then (unary-sound f) (λ _ _ d. sound-part (sign x h d))) (sound-up (λ _ _ d. unary-postfix d) (postfix-sound f))
 
     postfix-sound : (f : ℕ) → Sound (Derives text postfix) [] (postfixFrom text uncons f)
-    postfix-sound zero = s-nothing (opened one one-postfix)
-    postfix-sound (suc f) = s-then (primary-sound f) (λ _ _ d. picks-sound f (postfix-primary d))
+    postfix-sound zero = sound-nothing (opened one one-postfix)
+    postfix-sound (suc f) = sound-then (primary-sound f) (λ _ _ d. picks-sound f (postfix-primary d))
 
     picks-sound : (f : ℕ) {p : List Symbol} {e : Tree} → Derives text postfix p e → Sound (Derives text postfix) p (picksFrom text uncons f e)
-    picks-sound zero {p} {e} d = s-nothing (whole-of e d)
+    picks-sound zero {p} {e} d = sound-nothing (whole-of e d)
     picks-sound (suc f) d =
-        s-ask (is dot) (λ x h. s-expect isWord (Word 0) refl (λ y i. picks-sound f (member x y h i d)))
-        (s-ask (is openSquare) (λ x h. s-expect isIndex (Number 0 0) refl (λ y i. s-expect (is closeSquare) (Punctuator 19) refl (λ z j. picks-sound f (index x y z h i j d))))
-        (s-part d))
+        sound-ask (is dot) (λ x h. sound-expect isWord (Word 0) refl (λ y i. picks-sound f (member x y h i d)))
+        (sound-ask (is openSquare) (λ x h. sound-expect isIndex (Number 0 0) refl (λ y i. sound-expect (is closeSquare) (Punctuator 19) refl (λ z j. picks-sound f (index x y z h i j d))))
+        (sound-part d))
 
     primary-sound : (f : ℕ) → Sound (Derives text primary) [] (primaryFrom text uncons f)
-    primary-sound zero = s-nothing (opened one (literal yes refl))
+    primary-sound zero = sound-nothing (opened one (literal yes refl))
     primary-sound (suc f) =
-        s-ask isLiteral (λ x h. s-part (literal x h))
-        (s-ask (is symbol.variable) (λ x h. s-part (variable x h))
-        (s-ask (is openRound) (λ x h. s-then (expression-sound f) (λ _ _ d. s-expect (is closeRound) (Punctuator 17) refl (λ y i. s-part (brackets x y h i d))))
-        (s-ask (is word) (λ x h. call-sound f x h) (s-refused (opened one (literal yes refl))))))
+        sound-ask isLiteral (λ x h. sound-part (literal x h))
+        (sound-ask (is symbol.variable) (λ x h. sound-part (variable x h))
+        (sound-ask (is openRound) (λ x h. sound-then (expression-sound f) (λ _ _ d. sound-expect (is closeRound) (Punctuator 17) refl (λ y i. sound-part (brackets x y h i d))))
+        (sound-ask (is word) (λ x h. call-sound f x h) (sound-refused (opened one (literal yes refl))))))
 
     call-sound : (f : ℕ) (x : Symbol) → is word x ≡ true → Sound (Derives text primary) ‹ x › (callFrom text uncons f x)
-    call-sound zero x h = s-nothing (record { more = placed (Punctuator 16) 0 0 ∷ placed (Punctuator 17) 0 0 ∷ []; value = _; right = bare x (symbolFor (Punctuator 16)) (symbolFor (Punctuator 17)) h refl refl })
+    call-sound zero x h = sound-nothing (record { more = placed (Punctuator 16) 0 0 ∷ placed (Punctuator 17) 0 0 ∷ []; value = _; right = bare x (symbolFor (Punctuator 16)) (symbolFor (Punctuator 17)) h refl refl })
     call-sound (suc f) x h =
-        s-expect (is openRound) (Punctuator 16) refl (λ y i.
-        s-ask (is closeRound) (λ z j. s-part (bare x y z h i j))
-        (s-then (s-then (arguments-sound f) (λ _ _ d. s-expect (is closeRound) (Punctuator 17) refl (λ z j. s-part (closes z j d)))) (λ q args d. s-part (called x y q args h i d))))
+        sound-expect (is openRound) (Punctuator 16) refl (λ y i.
+        sound-ask (is closeRound) (λ z j. sound-part (bare x y z h i j))
+        (sound-then (sound-then (arguments-sound f) (λ _ _ d. sound-expect (is closeRound) (Punctuator 17) refl (λ z j. sound-part (closes z j d)))) (λ q args d. sound-part (called x y q args h i d))))
 
     arguments-sound : (f : ℕ) → Sound (Derives text arguments) [] (argumentsFrom text uncons f)
-    arguments-sound zero = s-nothing (opened (tree.last one) (last one-expression))
-    arguments-sound (suc f) = s-then (expression-sound f) (λ _ _ d. s-ask (is comma) (λ x h. s-then (arguments-sound f) (λ _ _ d′. s-part (next x h d d′))) (s-part (last d)))
+    arguments-sound zero = sound-nothing (opened (tree.last one) (last one-expression))
+    arguments-sound (suc f) = sound-then (expression-sound f) (λ _ _ d. sound-ask (is comma) (λ x h. sound-then (arguments-sound f) (λ _ _ d′. sound-part (next x h d d′))) (sound-part (last d)))

@@ -1,5 +1,5 @@
 -- The parser over a text answers as it does over the list of the text's symbols.
-use mathlib.Core.Path.{_≡_, refl, ap, sym, _∙_, subst}
+use mathlib.Core.Path.{_≡_, refl, ap, sym, _∙_}
 use mathlib.Core.Bool.{Bool, true, false}
 use mathlib.Core.List.{List, [], _∷_}
 use Prim.Native.Nat.{ℕ, zero, suc, _+_, _≤_, _<_}
@@ -79,12 +79,12 @@ module _ (text : List ℕ) where
     where
       over-kept : Kept uncons (inText text) Over
       over-kept = record {
-        k-part = λ {A} {a}. record { over = λ s. parts a s };
-        k-refused = record { over = λ s. refusals s };
-        k-nothing = record { over = λ s. nothing-left };
-        k-end = λ a. over-end a;
-        k-then = λ a b. over-then a b;
-        k-ask = λ test a b. over-ask test a b;
+        kept-part = λ {A} {a}. record { over = λ s. parts a s };
+        kept-refused = record { over = λ s. refusals s };
+        kept-nothing = record { over = λ s. nothing-left };
+        kept-end = λ a. over-end a;
+        kept-then = λ a b. over-then a b;
+        kept-ask = λ test a b. over-ask test a b;
       }
 
   -- ---- the list

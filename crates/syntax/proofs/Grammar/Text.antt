@@ -2,13 +2,12 @@
 use mathlib.Core.Path.{_≡_, refl, ap, sym, subst, _∙_}
 use mathlib.Core.Logic.{_↔_}
 use mathlib.Core.List.{List}
-use Prim.Native.Nat.{ℕ, _≤_}
+use Prim.Native.Nat.{ℕ}
 use native.Mathlib.Omega.{arith}
 use Rattle.lexer.specs.Tokens.{Placed, tokens, tokensOf}
 use Rattle.tree.specs.Tree.{Tree}
-use Rattle.syntax.specs.Symbol.{symbolAt}
 use Rattle.syntax.specs.Grammar.{expression, Derives}
-use Rattle.syntax.specs.Place.{symbolsOf, Right, Refused, placeOf, RefusedAt}
+use Rattle.syntax.specs.Place.{symbolsOf, Right, placeOf, RefusedAt}
 use Rattle.syntax.specs.Parser.{Result, part, refused, spent, wholeFrom, stepsFor, parseOf}
 use Rattle.syntax.specs.declared.symbol.Symbol.{Symbol}
 use Rattle.syntax.proofs.Grammar.Lists.{uncons}
