@@ -1,5 +1,5 @@
--- The grammar: page 01, "Tokens and grammar". Which lists of symbols are expressions, and of which tree: a relation, apart from any parser. Each rule is one way to put an expression of a level
--- together; where operators group to the left, the rule has its own level on the left.
+-- The grammar: page 01, "Tokens and grammar". Which symbols are an expression, and of which tree: a relation, apart from any parser. Each rule is one way to put something of a level together;
+-- where operators group to the left, the rule has its own level on its left.
 use mathlib.Core.Path.{_≡_}
 use mathlib.Core.Bool.{true}
 use mathlib.Core.List.{List, [], _∷_, _++_}
@@ -10,13 +10,13 @@ use Rattle.syntax.specs.Symbol.{question, colon, openRound, closeRound, 
 use Rattle.syntax.specs.Symbol as symbol
 use Rattle.syntax.specs.declared.symbol.Symbol.{Symbol}
 
--- "Precedence, lowest first": a conditional or less; binary operators of the levels 1 to k or less; a sign or less; a pick or less; a primary
+-- "Precedence, lowest first", each level with all that bind more: conditionals; the binary operators of the levels 1 to k; unary operators; picks; primaries. And the arguments of a call.
 pub data Level : Type 0 where
   expression : Level
   binary : ℕ → Level
   unary postfix primary arguments : Level
 
--- what has the form of a level: arguments, or a tree
+-- what the symbols of a level stand for
 abbrev pub Of : Level → Type 0
 Of expression = Tree
 Of (binary k) = Tree

@@ -33,7 +33,7 @@ abbrev pub byHeight : Bool → List ℕ → Tree → Judged
 byHeight true text e = refusal 5 0
 byHeight false text e = byNames (leftmostOf (unknownIn text e)) e
 
--- grammar; the steps never run out, as the code's promise over every text shows, so the last line is there for the definition's sake
+-- grammar; the steps never run out (`never-spent` in proofs/Grammar/Text.antt), so the last line is there for the definition's sake
 abbrev pub byGrammar : Result Symbol Tree → List ℕ → Judged
 byGrammar (part e x) text = byHeight (ltb 64 (heightOf e)) text e
 byGrammar (refused x) text = refusal 4 (x .at)

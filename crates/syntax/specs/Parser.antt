@@ -1,5 +1,5 @@
 -- The parser: page 01, "Tokens and grammar". Each level of precedence is a parser, put together from a few pieces; the levels call each other, with steps to spend, over any stream that
--- gives its next symbol and what follows.
+-- gives its next symbol and what follows. It takes what the grammar of `Grammar.antt` derives and nothing else, and refuses where `Place.antt` says: proofs/Grammar/Text.antt.
 use mathlib.Core.Bool.{Bool, true, false}
 use mathlib.Core.List.{List}
 use mathlib.Core.Option.{Option, none, some}
