@@ -7,16 +7,15 @@ use Rattle.lexer.specs.Tokens.{Placed, placed, tokens, tokensOf}
 use Rattle.lexer.specs.Scan.{scanOf}
 use Rattle.lexer.specs.declared.scan.Verdict.the-variants.{Fine}
 use Rattle.tree.specs.Tree.{Tree}
-use Rattle.syntax.specs.Symbol.{numberOf}
+use Rattle.syntax.specs.Symbol.{numberOf, seen}
 use Rattle.syntax.specs.Grammar.{expression, Derives}
 use Rattle.syntax.specs.declared.symbol.Symbol.{Symbol}
 
--- what the grammar sees of tokens
 abbrev pub symbolsOf : List Placed → List Symbol
 symbolsOf [] = []
-symbolsOf (placed t at until ∷ ts) = record { number = numberOf t; at = at; end = until } ∷ symbolsOf ts
+symbolsOf (placed t at until ∷ ts) = seen t at until ∷ symbolsOf ts
 
--- and all that matters of them for being right: `places-free` in proofs/Grammar/Places.antt
+-- all that matters of tokens for being right: `places-free` in proofs/Grammar/Places.antt
 abbrev pub numbersOf : List Placed → List ℕ
 numbersOf [] = []
 numbersOf (placed t at until ∷ ts) = numberOf t ∷ numbersOf ts

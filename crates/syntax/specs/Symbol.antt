@@ -62,8 +62,12 @@ numberOf (Word k) = cond (ltb k 6) (28 + k) word
 numberOf Variable = variable
 numberOf (Punctuator k) = cond (ltb k 22) k none
 
+-- what the grammar sees of a token with its place and its end
+abbrev pub seen : Token → ℕ → ℕ → Symbol
+seen t at until = record { number = numberOf t; at = at; end = until }
+
 abbrev pub symbolOf : List ℕ → Lexeme → Symbol
-symbolOf text (Found t at until) = record { number = numberOf t; at = at; end = until }
+symbolOf text (Found t at until) = seen t at until
 symbolOf text (Bad at until) = record { number = none; at = at; end = until }
 symbolOf text End = record { number = end; at = length text; end = length text }
 

@@ -78,12 +78,12 @@ module _ {A : Type 0} (test : Symbol → Bool) (y : Symbol → Parser A) (n : Pa
   no [] h i = record { gives = i .gives }
   no (x ∷ s) h i = record { gives = rw h (i .gives) }
 
-seen : (n : ℕ) (x : Symbol) (test : Symbol → Bool) → is n x ≡ true → test (made (x .number)) ≡ test (made n)
-seen n x test h = by-number test (eqb-true (x .number) n h)
+test-of : (n : ℕ) (x : Symbol) (test : Symbol → Bool) → is n x ≡ true → test (made (x .number)) ≡ test (made n)
+test-of n x test h = by-number test (eqb-true (x .number) n h)
 
 -- ---- what may follow
 
--- how far out a symbol reaches: what stands behind a part that it does not go on
+-- how far out a symbol reaches: 0 for a pick, its level for a binary operator, then `?`, `,` and all others. A part of a level goes on over what reaches no further than the level.
 abbrev ranked : ℕ → ℕ → ℕ
 ranked zero n = cond (eqb n dot || eqb n openSquare) 0 (cond (eqb n question) 7 (cond (eqb n comma) 8 9))
 ranked (suc k) n = suc k
@@ -118,14 +118,15 @@ misses-operator k s h = outer (hasPrecedence (suc k)) (suc k) (λ x e. omega (ar
 
 -- ---- what stands first
 
--- the first symbol has a number from lo on, and is not the bracket that closes
+-- Where the parser goes on after a test that failed, it has to fail on what the level begins with: a sign before a pick, the bracket that closes before arguments.
+-- The first symbol has a number from lo on, and is not the bracket that closes
 data Starts (lo : ℕ) : List Symbol → Type 0 where
   starts : (x : Symbol) {s : List Symbol} → lo ≤ x .number → (x .number ≡ closeRound → ⊥) → Starts lo (x ∷ s)
 
 longer : {lo : ℕ} {xs : List Symbol} (ys : List Symbol) → Starts lo xs → Starts lo (xs ++ ys)
 longer ys (starts x h i) = starts x h i
 
--- no sign stands before a pick
+-- signs have numbers below 16
 abbrev least : Level → ℕ
 least expression = 0
 least (binary k) = 0
@@ -212,6 +213,7 @@ module _ {A : Type 0} where
 -- ---- the levels
 
 module _ (text : List ℕ) where
+  -- what is derived of a level the parser takes, with steps from some count on, before what reaches further out; where operators group to the left, the parser goes on from it as from a part
   abbrev Complete : (level : Level) → List Symbol → Of level → Type 0
   Complete expression xs e = (r : List Symbol) → 7 < reach r → Takes 10 (expressionFrom text uncons) e r (xs ++ r)
   Complete (binary zero) xs e = (r : List Symbol) → 0 < reach r → Takes 3 (λ f. levelFrom text uncons f 0) e r (xs ++ r)
@@ -241,12 +243,12 @@ module _ (text : List ℕ) where
   word-called : (f : ℕ) {x : Symbol} {s : List Symbol} {z : Result (List Symbol) Tree} → is word x ≡ true → Gives (callFrom text uncons f x) s z → Gives (primaryFrom text uncons (suc f)) (x ∷ s) z
   unfolding expressionFrom
   word-called f {x} {s} h k =
-      no isLiteral _ _ (x ∷ s) (seen word x isLiteral h) (no (is symbol.variable) _ _ (x ∷ s) (seen word x (is symbol.variable) h) (no (is openRound) _ _ (x ∷ s) (seen word x (is openRound) h) (yes (is word) _ _ h k)))
+      no isLiteral _ _ (x ∷ s) (test-of word x isLiteral h) (no (is symbol.variable) _ _ (x ∷ s) (test-of word x (is symbol.variable) h) (no (is openRound) _ _ (x ∷ s) (test-of word x (is openRound) h) (yes (is word) _ _ h k)))
 
   complete : {L : Level} {xs : List Symbol} {e : Of L} → Derives text L xs e → Complete L xs e
   unfolding expressionFrom precedenceOf
   complete (expression-binary {xs} {e} d) = λ r n. record {
-    takes = stepped (expressionFrom text uncons) (λ f l. then-part _ (level-whole xs e r 6 (complete d) (omega arith) .takes f (omega arith)) (no (is question) _ _ r (misses-mark question r n) (given refl)));
+    takes = stepped (expressionFrom text uncons) (λ f l. then-part _ (level-whole xs e r levels (complete d) (omega arith) .takes f (omega arith)) (no (is question) _ _ r (misses-mark question r n) (given refl)));
   }
   complete (conditional {xs} {ys} {zs} {c} {a} {b} x y h i d d₁ d₂) = λ r n.
       let t : List Symbol = ys ++ (y ∷ (zs ++ r)) in
@@ -256,7 +258,7 @@ module _ (text : List ℕ) where
       taken-as same (record {
         takes = stepped (expressionFrom text uncons) (λ f l.
             let l₁ = past xs (x ∷ t) l in
-            then-part _ (level-whole xs _ (x ∷ t) 6 (complete d) (omega arith) .takes f (omega arith))
+            then-part _ (level-whole xs _ (x ∷ t) levels (complete d) (omega arith) .takes f (omega arith))
             (yes (is question) _ _ h (then-part _ (stepped {c = 11} (branchesFrom text uncons) (λ g k.
             let k₁ = past ys (y ∷ (zs ++ r)) k in
             then-part _ (complete d₁ (y ∷ (zs ++ r)) (omega arith) .takes g (omega arith)) (yes (is colon) _ _ i (then-part _ (complete d₂ r n .takes g (omega arith)) (given refl)))) f (omega arith)) (given refl))));
@@ -278,9 +280,9 @@ module _ (text : List ℕ) where
   complete (member {xs} {e} x y h i d) = λ r. goes-as (ap (λ s. s ++ r) (append-assoc xs ‹ x › ‹ y ›))
       (picked xs (x ∷ y ∷ []) r (complete d) (λ g z k. yes (is dot) _ _ h (yes isWord _ _ i k)) (omega arith))
   complete (index {xs} {e} x y z h i j d) = λ r. goes-as (ap (λ s. s ++ r) (append-assoc (xs ++ ‹ x ›) ‹ y › ‹ z › ∙ append-assoc xs ‹ x › (y ∷ z ∷ [])))
-      (picked xs (x ∷ y ∷ z ∷ []) r (complete d) (λ g u k. no (is dot) _ _ _ (seen openSquare x (is dot) h) (yes (is openSquare) _ _ h (yes isIndex _ _ i (yes (is closeSquare) _ _ j k)))) (omega arith))
+      (picked xs (x ∷ y ∷ z ∷ []) r (complete d) (λ g u k. no (is dot) _ _ _ (test-of openSquare x (is dot) h) (yes (is openSquare) _ _ h (yes isIndex _ _ i (yes (is closeSquare) _ _ j k)))) (omega arith))
   complete (literal x h) = λ r. record { takes = stepped (primaryFrom text uncons) (λ f l. yes isLiteral _ _ h (given refl)) }
-  complete (variable x h) = λ r. record { takes = stepped (primaryFrom text uncons) (λ f l. no isLiteral _ _ _ (seen symbol.variable x isLiteral h) (yes (is symbol.variable) _ _ h (given refl))) }
+  complete (variable x h) = λ r. record { takes = stepped (primaryFrom text uncons) (λ f l. no isLiteral _ _ _ (test-of symbol.variable x isLiteral h) (yes (is symbol.variable) _ _ h (given refl))) }
   complete (bare x y z h i j) = λ r. record {
     takes = stepped (primaryFrom text uncons) (λ f l. word-called f h (stepped {c = 0} (λ g. callFrom text uncons g x) (λ g k. yes (is openRound) _ _ i (yes (is closeRound) _ _ j (given refl))) f (omega arith)));
   }
@@ -297,7 +299,7 @@ module _ (text : List ℕ) where
       taken-as (ap (λ s. x ∷ s) (append-assoc xs ‹ y › r))
       (record {
         takes = stepped (primaryFrom text uncons) (λ f l.
-            no isLiteral _ _ _ (seen openRound x isLiteral h) (no (is symbol.variable) _ _ _ (seen openRound x (is symbol.variable) h)
+            no isLiteral _ _ _ (test-of openRound x isLiteral h) (no (is symbol.variable) _ _ _ (test-of openRound x (is symbol.variable) h)
             (yes (is openRound) _ _ h (then-part _ (complete d (y ∷ r) (omega arith) .takes f (omega arith)) (yes (is closeRound) _ _ i (given refl))))));
       })
   complete (last {xs} {e} d) = λ r n. record {

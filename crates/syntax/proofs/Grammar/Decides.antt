@@ -6,7 +6,7 @@ use native.Mathlib.Omega.{arith}
 use lib.ListN.{length}
 use Rattle.lexer.specs.Tokens.{Placed, placed}
 use Rattle.tree.specs.Tree.{Tree}
-use Rattle.syntax.specs.Symbol.{numberOf}
+use Rattle.syntax.specs.Symbol.{seen}
 use Rattle.syntax.specs.Grammar.{expression, ‹_›, Derives}
 use Rattle.syntax.specs.Place.{symbolsOf, Right, Begins, Never, Refused}
 use Rattle.syntax.specs.Parser.{Result, part, refused, spent, onPart, andThen, atEnd, expressionFrom, wholeFrom}
@@ -99,7 +99,7 @@ module _ (text : List ℕ) where
   split ts [] ys e = record { left = []; right = ts; are = refl; lefts = refl; rights = e }
   split [] (x ∷ xs) ys e = absurd (let z : _≡_ {A = ℕ} 0 1 = cc in omega arith)
   split (placed t at until ∷ ts) (x ∷ xs) ys e =
-      let i : record { number = numberOf t; at = at; end = until } ≡ x = cc in
+      let i : seen t at until ≡ x = cc in
       let h = split ts xs ys (cc) in
       record { left = placed t at until ∷ h .left; right = h .right; are = ap (λ l. placed t at until ∷ l) (h .are); lefts = let j = h .lefts in cc; rights = h .rights }
 

@@ -5,7 +5,7 @@ use mathlib.Core.List.{List, [], _∷_, _++_}
 use mathlib.Core.Option.{Option, none, some}
 use Prim.Native.Nat.{ℕ}
 use Rattle.lexer.specs.Tokens.{Placed, placed}
-use Rattle.syntax.specs.Symbol.{numberOf}
+use Rattle.syntax.specs.Symbol.{seen}
 use Rattle.syntax.specs.Place.{symbolsOf}
 use Rattle.syntax.specs.Parser.{Result}
 use Rattle.syntax.specs.declared.symbol.Symbol.{Symbol}
@@ -19,7 +19,7 @@ uncons (x ∷ xs) = some (x, xs)
 
 pub symbols-append : (ts us : List Placed) → symbolsOf (ts ++ us) ≡ symbolsOf ts ++ symbolsOf us
 symbols-append [] us = refl
-symbols-append (placed t at until ∷ ts) us = ap (λ xs. record { number = numberOf t; at = at; end = until } ∷ xs) (symbols-append ts us)
+symbols-append (placed t at until ∷ ts) us = ap (λ xs. seen t at until ∷ xs) (symbols-append ts us)
 
 -- a symbol of the number n, at no place in particular
 abbrev pub made : ℕ → Symbol

@@ -8,7 +8,7 @@ use Rattle.lexer.specs.declared.token.Token.{Token}
 use Rattle.lexer.specs.declared.token.Token.the-variants.{Number, Word, Punctuator}
 use Rattle.tree.specs.Tree.{Tree, Arguments}
 use Rattle.tree.specs.Tree as tree
-use Rattle.syntax.specs.Symbol.{question, colon, openRound, closeRound, openSquare, closeSquare, comma, dot, word, numberOf, is, isLiteral, isIndex, isWord, isPrefix, levels, hasPrecedence, functionOf}
+use Rattle.syntax.specs.Symbol.{question, colon, openRound, closeRound, openSquare, closeSquare, comma, dot, word, seen, is, isLiteral, isIndex, isWord, isPrefix, levels, hasPrecedence, functionOf}
 use Rattle.syntax.specs.Symbol as symbol
 use Rattle.syntax.specs.Grammar.{
   expression,
@@ -65,13 +65,9 @@ use Rattle.syntax.specs.Parser.{
   argumentsFrom,
 }
 use Rattle.syntax.specs.declared.symbol.Symbol.{Symbol}
-use Rattle.syntax.proofs.Grammar.Lists.{Parser, uncons, symbols-append, made}
+use Rattle.syntax.proofs.Grammar.Lists.{Parser, uncons, symbols-append}
 
 -- ---- what is said
-
--- a token at no place in particular
-abbrev symbolFor : Token → Symbol
-symbolFor t = made (numberOf t)
 
 -- there are tokens with which these are something of the language P
 pub record Opens {A : Type 0} (P : List Symbol → A → Type 0) (xs : List Symbol) : Type 0 where
@@ -131,8 +127,8 @@ module _ {A : Type 0} {P : List Symbol → A → Type 0} where
 
   module _ {p : List Symbol} {y : Symbol → Parser A} where
     -- some token passes the test, so that what was taken before can be completed
-    sound-expect : (test : Symbol → Bool) (t : Token) → test (symbolFor t) ≡ true → ((x : Symbol) → test x ≡ true → Sound P (p ++ ‹ x ›) (y x)) → Sound P p (expect uncons test y)
-    sound-expect test t h a = sound-ask test a (sound-refused (shorter p (placed t 0 0 ∷ []) (a (symbolFor t) h .opens)))
+    sound-expect : (test : Symbol → Bool) (t : Token) → test (seen t 0 0) ≡ true → ((x : Symbol) → test x ≡ true → Sound P (p ++ ‹ x ›) (y x)) → Sound P p (expect uncons test y)
+    sound-expect test t h a = sound-ask test a (sound-refused (shorter p (placed t 0 0 ∷ []) (a (seen t 0 0) h .opens)))
 
 module _ {A B : Type 0} (P : List Symbol → A → Type 0) (Q : List Symbol → B → Type 0) (p : List Symbol) (k : A → Parser B) (on : (q : List Symbol) (a : A) → P q a → Sound Q (p ++ q) (k a)) where
   then-fair : (s : List Symbol) (r : Result (List Symbol) A) → Fair P s r → Fair Q (p ++ s) (onPart r k)
@@ -182,41 +178,41 @@ module _ (text : List ℕ) where
   called : (x y : Symbol) (q : List Symbol) (args : Arguments) → is word x ≡ true → is openRound y ≡ true → Closes q args → Derives text primary (‹ x › ++ ‹ y › ++ q) (tree.call (x .at) (functionOf text x) args)
   called x y _ _ h i (closes z j d) = call x y z h i j d
 
-  -- a literal is of every level: `true`
-  abbrev yes : Symbol
-  yes = symbolFor (Word 0)
+  -- a literal, `true`, is of every level
+  abbrev literal-symbol : Symbol
+  literal-symbol = seen (Word 0) 0 0
 
-  abbrev one : Tree
-  one = tree.literal 0 2
+  abbrev leaf : Tree
+  leaf = tree.literal 0 2
 
-  one-postfix : Derives text postfix ‹ yes › one
-  one-postfix = postfix-primary (literal yes refl)
+  leaf-primary : Derives text primary ‹ literal-symbol › leaf
+  leaf-primary = literal literal-symbol refl
 
-  one-binary : (k : ℕ) → Derives text (binary k) ‹ yes › one
-  one-binary zero = binary-unary (unary-postfix one-postfix)
-  one-binary (suc k) = binary-lower (one-binary k)
+  leaf-binary : (k : ℕ) → Derives text (binary k) ‹ literal-symbol › leaf
+  leaf-binary zero = binary-unary (unary-postfix (postfix-primary leaf-primary))
+  leaf-binary (suc k) = binary-lower (leaf-binary k)
 
-  one-expression : Derives text expression ‹ yes › one
-  one-expression = expression-binary (one-binary levels)
+  leaf-expression : Derives text expression ‹ literal-symbol › leaf
+  leaf-expression = expression-binary (leaf-binary levels)
 
-  -- it opens whatever it belongs to
-  opened : {A : Type 0} {P : List Symbol → A → Type 0} (a : A) → P ‹ yes › a → Opens P []
+  -- so it opens whatever it belongs to
+  opened : {A : Type 0} {P : List Symbol → A → Type 0} (a : A) → P ‹ literal-symbol › a → Opens P []
   opened a d = record { more = placed (Word 0) 0 0 ∷ []; value = a; right = d }
 
   mutual
     unfolding expressionFrom
 
     pub expression-sound : (f : ℕ) → Sound (Derives text expression) [] (expressionFrom text uncons f)
-    expression-sound zero = sound-nothing (opened one one-expression)
+    expression-sound zero = sound-nothing (opened leaf leaf-expression)
     expression-sound (suc f) =
         sound-then (level-sound f levels) (λ cs c d. sound-ask (is question) (λ x h. sound-then (branches-sound f) (λ q b d′. sound-part (fork cs c x q b h d d′))) (sound-part (expression-binary d)))
 
     branches-sound : (f : ℕ) → Sound Forks [] (branchesFrom text uncons f)
-    branches-sound zero = sound-nothing (record { more = placed (Word 0) 0 0 ∷ placed (Punctuator 1) 0 0 ∷ placed (Word 0) 0 0 ∷ []; value = branches 0 one one; right = forks (symbolFor (Punctuator 1)) refl one-expression one-expression })
+    branches-sound zero = sound-nothing (record { more = placed (Word 0) 0 0 ∷ placed (Punctuator 1) 0 0 ∷ placed (Word 0) 0 0 ∷ []; value = branches 0 leaf leaf; right = forks (seen (Punctuator 1) 0 0) refl leaf-expression leaf-expression })
     branches-sound (suc f) = sound-then (expression-sound f) (λ _ _ d. sound-expect (is colon) (Punctuator 1) refl (λ y i. sound-then (expression-sound f) (λ _ _ d′. sound-part (forks y i d d′))))
 
     level-sound : (f k : ℕ) → Sound (Derives text (binary k)) [] (levelFrom text uncons f k)
-    level-sound zero k = sound-nothing (opened one (one-binary k))
+    level-sound zero k = sound-nothing (opened leaf (leaf-binary k))
     level-sound (suc f) zero = sound-up (λ _ _ d. binary-unary d) (unary-sound f)
     level-sound (suc f) (suc k) = sound-then (level-sound f k) (λ _ _ d. tail-sound f k (binary-lower d))
 
@@ -225,11 +221,11 @@ module _ (text : List ℕ) where
     tail-sound (suc f) k d = sound-ask (hasPrecedence (suc k)) (λ x h. sound-then (level-sound f k) (λ _ _ d′. tail-sound f k (operation x h d d′))) (sound-part d)
 
     unary-sound : (f : ℕ) → Sound (Derives text unary) [] (unaryFrom text uncons f)
-    unary-sound zero = sound-nothing (opened one (unary-postfix one-postfix))
+    unary-sound zero = sound-nothing (opened leaf (unary-postfix (postfix-primary leaf-primary)))
     unary-sound (suc f) = sound-ask isPrefix (λ x h. sound-then (unary-sound f) (λ _ _ d. sound-part (sign x h d))) (sound-up (λ _ _ d. unary-postfix d) (postfix-sound f))
 
     postfix-sound : (f : ℕ) → Sound (Derives text postfix) [] (postfixFrom text uncons f)
-    postfix-sound zero = sound-nothing (opened one one-postfix)
+    postfix-sound zero = sound-nothing (opened leaf (postfix-primary leaf-primary))
     postfix-sound (suc f) = sound-then (primary-sound f) (λ _ _ d. picks-sound f (postfix-primary d))
 
     picks-sound : (f : ℕ) {p : List Symbol} {e : Tree} → Derives text postfix p e → Sound (Derives text postfix) p (picksFrom text uncons f e)
@@ -240,20 +236,20 @@ module _ (text : List ℕ) where
         (sound-part d))
 
     primary-sound : (f : ℕ) → Sound (Derives text primary) [] (primaryFrom text uncons f)
-    primary-sound zero = sound-nothing (opened one (literal yes refl))
+    primary-sound zero = sound-nothing (opened leaf leaf-primary)
     primary-sound (suc f) =
         sound-ask isLiteral (λ x h. sound-part (literal x h))
         (sound-ask (is symbol.variable) (λ x h. sound-part (variable x h))
         (sound-ask (is openRound) (λ x h. sound-then (expression-sound f) (λ _ _ d. sound-expect (is closeRound) (Punctuator 17) refl (λ y i. sound-part (brackets x y h i d))))
-        (sound-ask (is word) (λ x h. call-sound f x h) (sound-refused (opened one (literal yes refl))))))
+        (sound-ask (is word) (λ x h. call-sound f x h) (sound-refused (opened leaf leaf-primary)))))
 
     call-sound : (f : ℕ) (x : Symbol) → is word x ≡ true → Sound (Derives text primary) ‹ x › (callFrom text uncons f x)
-    call-sound zero x h = sound-nothing (record { more = placed (Punctuator 16) 0 0 ∷ placed (Punctuator 17) 0 0 ∷ []; value = _; right = bare x (symbolFor (Punctuator 16)) (symbolFor (Punctuator 17)) h refl refl })
+    call-sound zero x h = sound-nothing (record { more = placed (Punctuator 16) 0 0 ∷ placed (Punctuator 17) 0 0 ∷ []; value = _; right = bare x (seen (Punctuator 16) 0 0) (seen (Punctuator 17) 0 0) h refl refl })
     call-sound (suc f) x h =
         sound-expect (is openRound) (Punctuator 16) refl (λ y i.
         sound-ask (is closeRound) (λ z j. sound-part (bare x y z h i j))
         (sound-then (sound-then (arguments-sound f) (λ _ _ d. sound-expect (is closeRound) (Punctuator 17) refl (λ z j. sound-part (closes z j d)))) (λ q args d. sound-part (called x y q args h i d))))
 
     arguments-sound : (f : ℕ) → Sound (Derives text arguments) [] (argumentsFrom text uncons f)
-    arguments-sound zero = sound-nothing (opened (tree.last one) (last one-expression))
+    arguments-sound zero = sound-nothing (opened (tree.last leaf) (last leaf-expression))
     arguments-sound (suc f) = sound-then (expression-sound f) (λ _ _ d. sound-ask (is comma) (λ x h. sound-then (arguments-sound f) (λ _ _ d′. sound-part (next x h d d′))) (sound-part (last d)))

@@ -14,7 +14,7 @@ use Rattle.lexer.specs.declared.token.Lexeme.the-variants.{Found, Bad, End}
 use Rattle.lexer.proofs.Law.Ahead.{Ahead, ahead}
 use Rattle.lexer.proofs.OnDemand.{on-found, on-bad, on-end}
 use Rattle.tree.specs.Tree.{Tree}
-use Rattle.syntax.specs.Symbol.{end, numberOf, symbolOf, symbolAt, is}
+use Rattle.syntax.specs.Symbol.{end, numberOf, seen, symbolOf, symbolAt, is}
 use Rattle.syntax.specs.Place.{symbolsOf, placeOf}
 use Rattle.syntax.specs.Parser.{Result, part, refused, spent, onPart, andThen, tested, ask, atEnd, wholeFrom, inText}
 use Rattle.syntax.specs.declared.symbol.Symbol.{Symbol}
@@ -98,11 +98,11 @@ module _ (text : List ℕ) where
 
   -- a token, and then the others
   found-are : (t : Token) (at until : ℕ) (xs : List Symbol) (rest : Lexed) → ((ts : List Placed) → rest ≡ tokens ts → xs ≡ symbolsOf ts) →
-      (ts : List Placed) → after (placed t at until) rest ≡ tokens ts → symbolOf text (Found t at until) ∷ xs ≡ symbolsOf ts
+      (ts : List Placed) → after (placed t at until) rest ≡ tokens ts → seen t at until ∷ xs ≡ symbolsOf ts
   found-are t at until xs (tokens ts′) h ts e = go ts e
     where
-      go : (ts : List Placed) → tokens (placed t at until ∷ ts′) ≡ tokens ts → symbolOf text (Found t at until) ∷ xs ≡ symbolsOf ts
-      go ts e = ap (λ r. symbolOf text (Found t at until) ∷ r) (h ts′ refl) ∙ ap (λ r. symbolsOf r) (let i : placed t at until ∷ ts′ ≡ ts = cc in i)
+      go : (ts : List Placed) → tokens (placed t at until ∷ ts′) ≡ tokens ts → seen t at until ∷ xs ≡ symbolsOf ts
+      go ts e = ap (λ r. seen t at until ∷ r) (h ts′ refl) ∙ ap (λ r. symbolsOf r) (let i : placed t at until ∷ ts′ ≡ ts = cc in i)
   found-are t at until xs (badAt p) h ts e = cc
 
   listed-as : (from : ℕ) (x : Lexeme) → lexemeAt text from ≡ x → Ahead from (length text) x → from ≤ length text →
@@ -110,7 +110,7 @@ module _ (text : List ℕ) where
   listed-as from (Found t at until) e a l on =
       let r = on until (omega (arith, a)) (a .ends) in
       record {
-        symbols = symbolOf text (Found t at until) ∷ r .symbols;
+        symbols = seen t at until ∷ r .symbols;
         streams = goes (ne-eqb (numberOf t) 36 (λ i. number-end t i)) (r .streams);
         few = omega (arith, a, r .few);
         tokens-are = λ ts h. found-are t at until (r .symbols) (tokensFrom text until) (λ ts i. r .tokens-are ts i) ts (sym (on-found text from t at until e) ∙ h);
