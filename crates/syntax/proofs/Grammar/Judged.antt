@@ -23,7 +23,6 @@ use Rattle.syntax.specs.Judge.{Judged, fine, refusal, byNames, byHeight,
 use Rattle.syntax.specs.declared.symbol.Symbol.{Symbol}
 use Rattle.syntax.specs.declared.names.Leftmost.{Leftmost}
 use Rattle.syntax.specs.declared.names.Leftmost.the-variants.{At, Nothing}
-use Rattle.syntax.specs.declared.judge.Judgement.{Judgement}
 use Rattle.syntax.specs.declared.judge.Judgement.the-variants.{Fine, Refused}
 use Rattle.syntax.proofs.Grammar.Text.{never-spent, accepts, refuses}
 
