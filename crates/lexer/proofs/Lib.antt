@@ -4,5 +4,6 @@ pub mod Munch
 pub mod Only
 pub mod OnDemand
 pub mod Refusals
+pub mod Parted
 -- What the functions' proofs lean on
 pub mod Law

@@ -26,12 +26,12 @@ use Rattle.lexer.proofs.Law.Spelling.{run-over, closed-run, slice-is, s
 
 -- ---- what bytes spell, by the first of them
 
-all-digits : (ds : List ℕ) → Digits⁺ ds → All isDigit ds
+pub all-digits : (ds : List ℕ) → Digits⁺ ds → All isDigit ds
 all-digits [] h = tt
 all-digits (b ∷ []) h = (h, tt)
 all-digits (b ∷ c ∷ ds) h = (h .0, all-digits (c ∷ ds) (h .1))
 
-of-whole : {w : List ℕ} → IsWholePart w → (P : List ℕ → Type 0) → ((b : ℕ) (bs : List ℕ) → All isDigit (b ∷ bs) → P (b ∷ bs)) → P w
+pub of-whole : {w : List ℕ} → IsWholePart w → (P : List ℕ → Type 0) → ((b : ℕ) (bs : List ℕ) → All isDigit (b ∷ bs) → P (b ∷ bs)) → P w
 of-whole nought P f = f 48 [] (tt, tt)
 of-whole (counted {b} {bs} n h) P f = f b bs (all-digits (b ∷ bs) h)
 

@@ -9,3 +9,4 @@ pub mod Streams
 pub mod Text
 pub mod Places
 pub mod Judged
+pub mod Written

@@ -91,28 +91,28 @@ record Fits {A : Type 0} (shape : A → Shape) (known : A → Type 0) (text : Li
 -- ---- tests
 
 -- what passes takes a byte
-abbrev Low : (Symbol → Bool) → Type 0
+abbrev pub Low : (Symbol → Bool) → Type 0
 Low test = (x : Symbol) → test x ≡ true → x .number < 36
 
-low-is : (n : ℕ) → n < 36 → Low (is n)
+pub low-is : (n : ℕ) → n < 36 → Low (is n)
 low-is n h x e = omega (arith, eqb-true (x .number) n e)
 
-low-literal : Low isLiteral
+pub low-literal : Low isLiteral
 low-literal x e = omega (arith, in-range 22 33 (x .number) e)
 
-low-index : Low isIndex
+pub low-index : Low isIndex
 low-index x e = omega (arith, in-range 22 25 (x .number) e)
 
-low-word : Low isWord
+pub low-word : Low isWord
 low-word x e = omega (arith, in-range 28 34 (x .number) e)
 
-low-prefix : Low isPrefix
+pub low-prefix : Low isPrefix
 low-prefix x e = omega (arith, prefix-operator x e)
 
 operator-passed : (k : ℕ) (x : Symbol) → hasPrecedence (suc k) x ≡ true → (1 < x .number) × (x .number < 15)
 operator-passed k x e = operator-number (x .number) k (eqb-true (precedenceOf (x .number)) (suc k) e)
 
-low-operator : (k : ℕ) → Low (hasPrecedence (suc k))
+pub low-operator : (k : ℕ) → Low (hasPrecedence (suc k))
 low-operator k x e = omega (arith, operator-passed k x e)
 
 -- x has passed a test, and t follows it

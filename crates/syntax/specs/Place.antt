@@ -54,3 +54,11 @@ module _ (text : List ℕ) where
     pub short : length text ≤ 1024
     pub fine : scanOf text ≡ Fine
     pub lexed : tokensOf text ≡ tokens ts
+
+-- a text that is a right expression, of tokens with these numbers
+pub record RightText (numbers : List ℕ) : Type 0 where
+  pub text : List ℕ
+  pub its : List Placed
+  pub lexed : tokensOf text ≡ tokens its
+  pub numbered : numbersOf its ≡ numbers
+  pub right : Right text its

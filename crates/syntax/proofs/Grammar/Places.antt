@@ -51,7 +51,7 @@ likes [] (placed t at until ∷ us) h = absurd (let z : _≡_ {A = ℕ} 0 1 = cc
 likes (placed t at until ∷ ts) [] h = absurd (let z : _≡_ {A = ℕ} 0 1 = cc in omega arith)
 likes (placed t at until ∷ ts) (placed t′ at′ until′ ∷ us) h = like-more (let i : numberOf t ≡ numberOf t′ = cc in i) (likes ts us (cc))
 
-numbers-append : (ts us : List Placed) → numbersOf (ts ++ us) ≡ numbersOf ts ++ numbersOf us
+pub numbers-append : (ts us : List Placed) → numbersOf (ts ++ us) ≡ numbersOf ts ++ numbersOf us
 numbers-append [] us = refl
 numbers-append (placed t at until ∷ ts) us = ap (λ ns. numberOf t ∷ ns) (numbers-append ts us)
 
