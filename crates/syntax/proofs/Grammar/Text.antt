@@ -1,6 +1,6 @@
 -- What the parser's definition answers of a text, by the grammar: the tree of a right expression, or the place of a refusal.
 use mathlib.Core.Path.{_≡_, refl, ap, sym, subst, _∙_}
-use mathlib.Core.Logic.{_↔_}
+use mathlib.Core.Logic.{_⊎_, inl, inr, _↔_}
 use mathlib.Core.List.{List}
 use Prim.Native.Nat.{ℕ}
 use native.Mathlib.Omega.{arith}
@@ -27,11 +27,20 @@ module _ (text : List ℕ) where
   pub right-nowhere : (ts : List Placed) (p : ℕ) → RefusedAt text ts p → Right text ts → ⊥
   right-nowhere ts p (r, h, i) d = never-both text h d
 
-  -- ---- the parser's
-
-  -- over a list, with steps enough
+  -- the parser over a list, with steps enough
   abbrev listAnswer : List Symbol → Result (List Symbol) Tree
   listAnswer xs = wholeFrom text uncons (stepsOf xs) xs
+
+  -- All others are refused somewhere.
+  pub right-or-refused : (ts : List Placed) → Right text ts ⊎ ((p : ℕ) × RefusedAt text ts p)
+  right-or-refused ts = go (listAnswer (symbolsOf ts)) refl
+    where
+      go : (a : Result (List Symbol) Tree) → listAnswer (symbolsOf ts) ≡ a → Right text ts ⊎ ((p : ℕ) × RefusedAt text ts p)
+      go (part e r) h = inl (e, taken-right text (stepsOf (symbolsOf ts)) (symbolsOf ts) e r h)
+      go (refused r) h = let (rest, i, j) = refused-where text (stepsOf (symbolsOf ts)) ts r (omega arith) h in inr (placeOf text rest, (rest, i, refl))
+      go spent h = absurd (list-lasts text (stepsOf (symbolsOf ts)) (symbolsOf ts) (omega arith) h)
+
+  -- ---- the parser's
 
   alike : Alike text (listAnswer (listed text .symbols)) (parseOf text)
   unfolding parseOf
