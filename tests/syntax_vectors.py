@@ -231,8 +231,11 @@ class Reading:
         found = [self.expression()]
         while self.is_one_of([b',']):
             self.take()
-            found.append(self.expression())
+            found += self.behind_comma()
         return found
+
+    def behind_comma(self):
+        return [self.expression()]
 
     # The tree
 
@@ -541,14 +544,7 @@ def empty_brackets(self):
 
 
 def trailing_comma(self):
-    if self.is_one_of([b')']):
-        return []
-    found = [self.expression()]
-    while self.is_one_of([b',']):
-        self.take()
-        if not self.is_one_of([b')']):
-            found.append(self.expression())
-    return found
+    return [] if self.is_one_of([b')']) else Reading.behind_comma(self)
 
 
 def few_arguments(self):
@@ -685,7 +681,7 @@ WRONG = {
     '!== above ===': wrong(LEVELS=LEVELS[:2] + [[b'==='], [b'!==']] + LEVELS[3:]),
     'brackets counted in the height': wrong(bracketed=counted_brackets),
     'empty brackets': wrong(bracketed=empty_brackets),
-    'a comma behind the last argument': wrong(arguments=trailing_comma),
+    'a comma behind the last argument': wrong(behind_comma=trailing_comma),
     'at most 255 arguments': wrong(arguments=few_arguments),
     'place of 4 a token late': wrong(place_of=late),
     'place of the end without spaces': wrong(place_of=trimmed_end),

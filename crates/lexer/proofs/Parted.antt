@@ -1,7 +1,7 @@
 -- "Spaces part tokens": tokens written with a space behind each are read back.
 use mathlib.Core.Path.{_≡_, refl, sym, _∙_, ap, subst}
 use mathlib.Core.Bool.{Bool, true, false, cond, not, _&&_, and-false, and-eq-true-iff}
-use mathlib.Core.List.{List, [], _∷_, _++_, append-nil, append-assoc, List·Memᴰ, Memᴰ·append-left, Memᴰ·append-right}
+use mathlib.Core.List.{List, [], _∷_, _++_, append-nil, append-assoc, map, List·Memᴰ, Memᴰ·append-left, Memᴰ·append-right}
 use Prim.Native.Nat.{ℕ, _+_, _≤_, _<_}
 use native.Mathlib.Nat.{add-sub-cancel-left}
 use native.Mathlib.Omega.{arith}
@@ -15,7 +15,7 @@ use Rattle.lexer.specs.Bytes.{isSpace, isNameByte, isQuote, inClass, run
 use Rattle.lexer.specs.Punctuator.{punctuators, refusedOperators}
 use Rattle.lexer.specs.Token.{lexemeAt}
 use Rattle.lexer.specs.Spelling.{All, IsDecimal, whole, pointed, Spells, number, string, variable, word, punctuator, Refuses, long-number, refused-operator, NoLonger, SpacesUpTo}
-use Rattle.lexer.specs.Tokens.{Placed, placed, tokens, after, tokensFrom, tokensOf}
+use Rattle.lexer.specs.Tokens.{Placed, placed, tokenOf, tokens, after, tokensFrom, tokensOf}
 use Rattle.lexer.specs.declared.bytes.Class.the-variants.{Inside}
 use Rattle.lexer.specs.declared.token.Token.{Token}
 use Rattle.lexer.specs.declared.token.Lexeme.the-variants.{Found, End}
@@ -178,14 +178,9 @@ pub data Spelled : List ℕ → List Token → Type 0 where
   done : Spelled [] []
   more : {s text : List ℕ} {t : Token} {ts : List Token} → Spells s t → Spelled text ts → Spelled (s ++ 32 ∷ text) (t ∷ ts)
 
--- tokens without their places
-abbrev pub unplaced : List Placed → List Token
-unplaced [] = []
-unplaced (placed t at end ∷ us) = t ∷ unplaced us
-
 -- behind a token the next one begins with the space there
 from-place : (w : List ℕ) (from : ℕ) (sp : List ℕ) {text : List ℕ} {ts : List Token} → All isSpace sp → drop from w ≡ sp ++ text → Spelled text ts →
-    (us : List Placed) × (tokensFrom w from ≡ tokens us) × (unplaced us ≡ ts)
+    (us : List Placed) × (tokensFrom w from ≡ tokens us) × (map tokenOf us ≡ ts)
 from-place w from sp a e done = ([], on-end w from (sym (is-lexeme w from End (rw (e, append-nil sp) a))), refl)
 from-place w from sp a e (more {s} {text} {t} h k) =
     let at = from + length sp in
@@ -194,5 +189,5 @@ from-place w from sp a e (more {s} {text} {t} h k) =
     (placed t at end ∷ r .0, on-found w from t at end (one w from sp s text e t a h) ∙ ap (after (placed t at end)) (r .1), ap (λ (l : List Token). t ∷ l) (r .2))
 
 -- Tokens with a space behind each are the tokens of their text.
-pub parted : {text : List ℕ} {ts : List Token} → Spelled text ts → (us : List Placed) × (tokensOf text ≡ tokens us) × (unplaced us ≡ ts)
+pub parted : {text : List ℕ} {ts : List Token} → Spelled text ts → (us : List Placed) × (tokensOf text ≡ tokens us) × (map tokenOf us ≡ ts)
 parted {text} h = from-place text 0 [] tt refl h

@@ -11,6 +11,9 @@ use Rattle.lexer.specs.declared.token.Lexeme.the-variants.{Found, Bad, E
 pub data Placed : Type 0 where
   placed : Token → ℕ → ℕ → Placed
 
+abbrev pub tokenOf : Placed → Token
+tokenOf (placed t at end) = t
+
 -- the tokens of a text, or its first bad place
 pub data Lexed : Type 0 where
   tokens : List Placed → Lexed

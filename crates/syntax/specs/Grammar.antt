@@ -1,5 +1,5 @@
--- The grammar: page 01, "Tokens and grammar". Which symbols are an expression, and of which tree: a relation, apart from any parser. Each rule is one way to put something of a level together;
--- where operators group to the left, the rule has its own level on its left.
+-- The grammar: page 01, "Tokens and grammar". Which symbols are an expression, and of which tree: a relation, apart from any parser. Each rule is one way to put together what a nonterminal
+-- stands for; where operators group to the left, the rule has its own nonterminal on its left.
 use mathlib.Core.Path.{_≡_}
 use mathlib.Core.Bool.{true}
 use mathlib.Core.List.{List, [], _∷_, _++_}
@@ -10,20 +10,20 @@ use Rattle.syntax.specs.Symbol.{question, colon, openRound, closeRound, 
 use Rattle.syntax.specs.Symbol as symbol
 use Rattle.syntax.specs.declared.symbol.Symbol.{Symbol}
 
--- "Precedence, lowest first", each level with all that bind more: conditionals; the binary operators of the levels 1 to k; unary operators; picks; primaries. And the arguments of a call.
-pub data Level : Type 0 where
-  expression : Level
-  binary : ℕ → Level
-  unary postfix primary arguments : Level
+-- "Precedence, lowest first", each with all that bind more: conditionals; the binary operators of the levels 1 to k; unary operators; picks; primaries. And the arguments of a call.
+pub data Nonterminal : Type 0 where
+  expression : Nonterminal
+  binary : ℕ → Nonterminal
+  unary postfix primary arguments : Nonterminal
 
--- what the symbols of a level stand for
-abbrev pub Of : Level → Type 0
-Of expression = Tree
-Of (binary k) = Tree
-Of unary = Tree
-Of postfix = Tree
-Of primary = Tree
-Of arguments = Arguments
+-- what stands for its symbols in the tree
+abbrev pub TreeOf : Nonterminal → Type 0
+TreeOf expression = Tree
+TreeOf (binary k) = Tree
+TreeOf unary = Tree
+TreeOf postfix = Tree
+TreeOf primary = Tree
+TreeOf arguments = Arguments
 
 -- one symbol
 abbrev pub ‹_› : Symbol → List Symbol
@@ -31,7 +31,7 @@ abbrev pub ‹_› : Symbol → List Symbol
 
 -- The text is there for the words' sake: of a call the tree has the function's number, and of a pick the member's.
 module _ (text : List ℕ) where
-  pub data Derives : (level : Level) → List Symbol → Of level → Type 0 where
+  pub data Derives : (of : Nonterminal) → List Symbol → TreeOf of → Type 0 where
     -- expression := binary 6 | binary 6 `?` expression `:` expression
     -- "a conditional nests to its right and its middle is a whole expression"
     expression-binary : {xs : List Symbol} {e : Tree} → Derives (binary levels) xs e → Derives expression xs e
@@ -41,11 +41,11 @@ module _ (text : List ℕ) where
     -- "Binary operators group to the left"
     binary-unary : {xs : List Symbol} {e : Tree} → Derives unary xs e → Derives (binary zero) xs e
     binary-lower : {k : ℕ} {xs : List Symbol} {e : Tree} → Derives (binary k) xs e → Derives (binary (suc k)) xs e
-    operation : {k : ℕ} {xs ys : List Symbol} {a b : Tree} (x : Symbol) → hasPrecedence (suc k) x ≡ true → Derives (binary (suc k)) xs a → Derives (binary k) ys b →
+    binary-operation : {k : ℕ} {xs ys : List Symbol} {a b : Tree} (x : Symbol) → hasPrecedence (suc k) x ≡ true → Derives (binary (suc k)) xs a → Derives (binary k) ys b →
         Derives (binary (suc k)) (xs ++ ‹ x › ++ ys) (tree.binary (x .at) (x .number) a b)
     -- unary := postfix | `+` unary | `-` unary | `!` unary
     unary-postfix : {xs : List Symbol} {e : Tree} → Derives postfix xs e → Derives unary xs e
-    sign : {xs : List Symbol} {e : Tree} (x : Symbol) → isPrefix x ≡ true → Derives unary xs e → Derives unary (‹ x › ++ xs) (tree.unary (x .at) (x .number) e)
+    unary-operation : {xs : List Symbol} {e : Tree} (x : Symbol) → isPrefix x ≡ true → Derives unary xs e → Derives unary (‹ x › ++ xs) (tree.unary (x .at) (x .number) e)
     -- postfix := primary | postfix `.` word | postfix `[` index `]`
     -- "A pick is `.` and a word, or `[0]` to `[3]`"
     postfix-primary : {xs : List Symbol} {e : Tree} → Derives primary xs e → Derives postfix xs e

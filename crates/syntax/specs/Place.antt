@@ -1,9 +1,9 @@
 -- The place of a refusal 4: page 01, "Refusal numbers": "the first token no right expression can have there, or the end".
 use mathlib.Core.Path.{_≡_}
-use mathlib.Core.List.{List, [], _∷_, _++_}
+use mathlib.Core.List.{List, [], _∷_, _++_, map}
 use Prim.Native.Nat.{ℕ, _≤_}
 use lib.ListN.{length}
-use Rattle.lexer.specs.Tokens.{Placed, placed, tokens, tokensOf}
+use Rattle.lexer.specs.Tokens.{Placed, placed, tokenOf, tokens, tokensOf}
 use Rattle.lexer.specs.Scan.{scanOf}
 use Rattle.lexer.specs.declared.scan.Verdict.the-variants.{Fine}
 use Rattle.tree.specs.Tree.{Tree}
@@ -11,14 +11,16 @@ use Rattle.syntax.specs.Symbol.{numberOf, seen}
 use Rattle.syntax.specs.Grammar.{expression, Derives}
 use Rattle.syntax.specs.declared.symbol.Symbol.{Symbol}
 
-abbrev pub symbolsOf : List Placed → List Symbol
-symbolsOf [] = []
-symbolsOf (placed t at until ∷ ts) = seen t at until ∷ symbolsOf ts
+abbrev pub symbolIn : Placed → Symbol
+symbolIn (placed t at until) = seen t at until
 
--- all that matters of tokens for being right: `places-free` in proofs/Grammar/Places.antt
+-- what the grammar sees of tokens
+abbrev pub symbolsOf : List Placed → List Symbol
+symbolsOf ts = map symbolIn ts
+
+-- all that matters of them for being right: `places-free` in proofs/Grammar/Places.antt
 abbrev pub numbersOf : List Placed → List ℕ
-numbersOf [] = []
-numbersOf (placed t at until ∷ ts) = numberOf t ∷ numbersOf ts
+numbersOf ts = map (λ t. numberOf (tokenOf t)) ts
 
 module _ (text : List ℕ) where
   -- a right expression
@@ -29,7 +31,7 @@ module _ (text : List ℕ) where
   abbrev pub Begins : List Placed → Type 0
   Begins ts = (us : List Placed) × Right (ts ++ us)
 
-  -- "no right expression can have" the first of the rest "there"; where nothing is left, the tokens are none
+  -- "no right expression can have" the first of the rest "there"; where nothing is left, the tokens are no right expression
   abbrev pub Never : List Placed → List Placed → Type 0
   Never ts [] = Right ts → ⊥
   Never ts (u ∷ us) = Begins (ts ++ (u ∷ [])) → ⊥
@@ -58,7 +60,7 @@ module _ (text : List ℕ) where
 -- a text that is a right expression, of tokens with these numbers
 pub record RightText (numbers : List ℕ) : Type 0 where
   pub text : List ℕ
-  pub its : List Placed
-  pub lexed : tokensOf text ≡ tokens its
-  pub numbered : numbersOf its ≡ numbers
-  pub right : Right text its
+  pub ts : List Placed
+  pub lexed : tokensOf text ≡ tokens ts
+  pub numbered : numbersOf ts ≡ numbers
+  pub right : Right text ts

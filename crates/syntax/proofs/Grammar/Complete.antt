@@ -12,23 +12,23 @@ use Rattle.tree.specs.Tree as tree
 use Rattle.syntax.specs.Symbol.{question, colon, openRound, closeRound, openSquare, closeSquare, comma, dot, word, is, isLiteral, isIndex, isWord, isPrefix, precedenceOf, levels, hasPrecedence}
 use Rattle.syntax.specs.Symbol as symbol
 use Rattle.syntax.specs.Grammar.{
-  Level,
+  Nonterminal,
   expression,
   binary,
   unary,
   postfix,
   primary,
   arguments,
-  Of,
+  TreeOf,
   ‹_›,
   Derives,
   expression-binary,
   conditional,
   binary-unary,
   binary-lower,
-  operation,
+  binary-operation,
   unary-postfix,
-  sign,
+  unary-operation,
   postfix-primary,
   member,
   index,
@@ -118,7 +118,7 @@ misses-operator k s h = outer (hasPrecedence (suc k)) (suc k) (λ x e. omega (ar
 
 -- ---- what stands first
 
--- Where the parser goes on after a test that failed, it has to fail on what the level begins with: a sign before a pick, the bracket that closes before arguments.
+-- Where the parser goes on after a test that failed, it has to fail on what the nonterminal begins with: a unary operator before a pick, the bracket that closes before arguments.
 -- The first symbol has a number from lo on, and is not the bracket that closes
 data Starts (lo : ℕ) : List Symbol → Type 0 where
   starts : (x : Symbol) {s : List Symbol} → lo ≤ x .number → (x .number ≡ closeRound → ⊥) → Starts lo (x ∷ s)
@@ -126,8 +126,8 @@ data Starts (lo : ℕ) : List Symbol → Type 0 where
 longer : {lo : ℕ} {xs : List Symbol} (ys : List Symbol) → Starts lo xs → Starts lo (xs ++ ys)
 longer ys (starts x h i) = starts x h i
 
--- signs have numbers below 16
-abbrev least : Level → ℕ
+-- unary operators have numbers below 16
+abbrev least : Nonterminal → ℕ
 least expression = 0
 least (binary k) = 0
 least unary = 0
@@ -141,21 +141,21 @@ any (starts x h i) = starts x (omega arith) i
 from-number : {lo : ℕ} (x : Symbol) {s : List Symbol} (n : ℕ) → is n x ≡ true → lo ≤ n → (n ≡ closeRound → ⊥) → Starts lo (x ∷ s)
 from-number x n h l i = let e = eqb-true (x .number) n h in starts x (omega arith) (λ j. i (sym e ∙ j))
 
-no-sign : {lo : ℕ} {xs : List Symbol} (r : List Symbol) → 16 ≤ lo → Starts lo xs → Misses isPrefix (xs ++ r)
-no-sign r l (starts x h i) = simp (ne-eqb (x .number) 10 (λ e. omega arith), ne-eqb (x .number) 11 (λ e. omega arith), ne-eqb (x .number) 15 (λ e. omega arith))
+no-operator : {lo : ℕ} {xs : List Symbol} (r : List Symbol) → 16 ≤ lo → Starts lo xs → Misses isPrefix (xs ++ r)
+no-operator r l (starts x h i) = simp (ne-eqb (x .number) 10 (λ e. omega arith), ne-eqb (x .number) 11 (λ e. omega arith), ne-eqb (x .number) 15 (λ e. omega arith))
 
 not-closed : {lo : ℕ} {xs : List Symbol} (r : List Symbol) → Starts lo xs → Misses (is closeRound) (xs ++ r)
 not-closed r (starts x h i) = ne-eqb (x .number) closeRound i
 
 module _ (text : List ℕ) where
-  first-of : {L : Level} {xs : List Symbol} {e : Of L} → Derives text L xs e → Starts (least L) xs
+  first-of : {N : Nonterminal} {xs : List Symbol} {e : TreeOf N} → Derives text N xs e → Starts (least N) xs
   first-of (expression-binary d) = first-of d
   first-of (conditional {xs} {ys} {zs} x y h i d d₁ d₂) = longer zs (longer ‹ y › (longer ys (longer ‹ x › (first-of d))))
   first-of (binary-unary d) = first-of d
   first-of (binary-lower d) = first-of d
-  first-of (operation {ys = ys} x h d d₁) = longer ys (longer ‹ x › (first-of d))
+  first-of (binary-operation {ys = ys} x h d d₁) = longer ys (longer ‹ x › (first-of d))
   first-of (unary-postfix d) = any (first-of d)
-  first-of (sign x h d) = let l = prefix-operator x h in starts x (omega arith) (λ e. omega arith)
+  first-of (unary-operation x h d) = let l = prefix-operator x h in starts x (omega arith) (λ e. omega arith)
   first-of (postfix-primary d) = first-of d
   first-of (member x y h i d) = longer ‹ y › (longer ‹ x › (first-of d))
   first-of (index x y z h i j d) = longer ‹ z › (longer ‹ y › (longer ‹ x › (first-of d)))
@@ -213,8 +213,8 @@ module _ {A : Type 0} where
 -- ---- the levels
 
 module _ (text : List ℕ) where
-  -- what is derived of a level the parser takes, with steps from some count on, before what reaches further out; where operators group to the left, the parser goes on from it as from a part
-  abbrev Complete : (level : Level) → List Symbol → Of level → Type 0
+  -- what is derived the parser takes, with steps from some count on, before what reaches further out; where operators group to the left, the parser goes on from it as from a part
+  abbrev Complete : (of : Nonterminal) → List Symbol → TreeOf of → Type 0
   Complete expression xs e = (r : List Symbol) → 7 < reach r → Takes 10 (expressionFrom text uncons) e r (xs ++ r)
   Complete (binary zero) xs e = (r : List Symbol) → 0 < reach r → Takes 3 (λ f. levelFrom text uncons f 0) e r (xs ++ r)
   Complete (binary (suc k)) xs e = (r : List Symbol) → k < reach r → Goes k (k + 4) (λ f. levelFrom text uncons f (suc k)) (λ f. tailFrom text uncons f k) e r (xs ++ r)
@@ -245,7 +245,7 @@ module _ (text : List ℕ) where
   word-called f {x} {s} h k =
       no isLiteral _ _ (x ∷ s) (test-of word x isLiteral h) (no (is symbol.variable) _ _ (x ∷ s) (test-of word x (is symbol.variable) h) (no (is openRound) _ _ (x ∷ s) (test-of word x (is openRound) h) (yes (is word) _ _ h k)))
 
-  complete : {L : Level} {xs : List Symbol} {e : Of L} → Derives text L xs e → Complete L xs e
+  complete : {N : Nonterminal} {xs : List Symbol} {e : TreeOf N} → Derives text N xs e → Complete N xs e
   unfolding expressionFrom precedenceOf
   complete (expression-binary {xs} {e} d) = λ r n. record {
     takes = stepped (expressionFrom text uncons) (λ f l. then-part _ (level-whole xs e r levels (complete d) (omega arith) .takes f (omega arith)) (no (is question) _ _ r (misses-mark question r n) (given refl)));
@@ -265,7 +265,7 @@ module _ (text : List ℕ) where
       })
   complete (binary-unary d) = λ r n. record { takes = stepped (λ f. levelFrom text uncons f 0) (λ f l. complete d r n .takes f (omega arith)) }
   complete (binary-lower {k} {xs} {e} d) = λ r n. first xs (omega arith) (omega arith) (λ f. refl) (level-whole xs e r k (complete d) n)
-  complete (operation {k} {xs} {ys} {a} {b} x h d d₁) = λ r n.
+  complete (binary-operation {k} {xs} {ys} {a} {b} x h d d₁) = λ r n.
       let o = rank-operator k x h in
       goes-as (append-assoc (xs ++ ‹ x ›) ys r ∙ append-assoc xs ‹ x › (ys ++ r))
       (record {
@@ -273,9 +273,9 @@ module _ (text : List ℕ) where
             yes (hasPrecedence (suc k)) _ _ h (then-part _ (level-whole ys b r k (complete d₁) n .takes g (omega arith)) (t g (past ys r (omega arith))))));
       })
   complete (unary-postfix {xs} {e} d) = λ r n. record {
-    takes = stepped (unaryFrom text uncons) (λ f l. no isPrefix _ _ (xs ++ r) (no-sign r (omega arith) (first-of text d)) (postfix-whole xs e r (complete d) n .takes f (omega arith)));
+    takes = stepped (unaryFrom text uncons) (λ f l. no isPrefix _ _ (xs ++ r) (no-operator r (omega arith) (first-of text d)) (postfix-whole xs e r (complete d) n .takes f (omega arith)));
   }
-  complete (sign {xs} x h d) = λ r n. record { takes = stepped (unaryFrom text uncons) (λ f l. yes isPrefix _ _ h (then-part _ (complete d r n .takes f (omega arith)) (given refl))) }
+  complete (unary-operation {xs} x h d) = λ r n. record { takes = stepped (unaryFrom text uncons) (λ f l. yes isPrefix _ _ h (then-part _ (complete d r n .takes f (omega arith)) (given refl))) }
   complete (postfix-primary {xs} d) = λ r. first xs (omega arith) (omega arith) (λ f. refl) (complete d r)
   complete (member {xs} {e} x y h i d) = λ r. goes-as (ap (λ s. s ++ r) (append-assoc xs ‹ x › ‹ y ›))
       (picked xs (x ∷ y ∷ []) r (complete d) (λ g z k. yes (is dot) _ _ h (yes isWord _ _ i k)) (omega arith))

@@ -1,6 +1,6 @@
 -- The parser over the symbols of tokens decides what the grammar says of these: their one tree, or the one place where they are refused.
 use mathlib.Core.Path.{_≡_, refl, ap, sym, subst, _∙_}
-use mathlib.Core.List.{List, [], _∷_, _++_, append-assoc, append-nil}
+use mathlib.Core.List.{List, [], _∷_, _++_, append-assoc, append-nil, map-append}
 use Prim.Native.Nat.{ℕ, _≤_, _+_, _*_}
 use native.Mathlib.Omega.{arith}
 use lib.ListN.{length}
@@ -12,7 +12,7 @@ use Rattle.syntax.specs.Place.{symbolsOf, Right, Begins, Never, Refused}
 use Rattle.syntax.specs.Parser.{Result, part, refused, spent, onPart, andThen, atEnd, expressionFrom, wholeFrom}
 use Rattle.syntax.specs.declared.symbol.Symbol.{Symbol}
 use Rattle.syntax.proofs.Law.Steps.{given, then-part}
-use Rattle.syntax.proofs.Grammar.Lists.{uncons, symbols-append}
+use Rattle.syntax.proofs.Grammar.Lists.{uncons}
 use Rattle.syntax.proofs.Grammar.Sound.{Fair, Sound, sound-then, sound-end, expression-sound}
 use Rattle.syntax.proofs.Grammar.Kept.{le-of}
 use Rattle.syntax.proofs.Grammar.Same.{Gone, Out, parts, refusals, gone, same-at, whole-same}
@@ -113,7 +113,7 @@ module _ (text : List ℕ) where
   module _ (f : ℕ) (taken : List Placed) where
     never-here : (rest : List Placed) → stepsOf (symbolsOf (taken ++ rest)) ≤ f → wholeFrom text uncons f (symbolsOf (taken ++ rest)) ≡ refused (symbolsOf rest) → Never text taken rest
     never-here [] l h = λ (e, d). (let q = right-taken f (symbolsOf (taken ++ [])) e l (rw append-nil d) in let z : _≡_ {A = ℕ} 0 1 = cc in omega arith)
-    never-here (placed t at until ∷ rest) l h = λ (us, (e, d)). not-begun f (symbolsOf taken) _ (symbolsOf rest) (symbolsOf us) e (rw symbols-append at h) (rw (symbols-append, symbols-append) at d)
+    never-here (placed t at until ∷ rest) l h = λ (us, (e, d)). not-begun f (symbolsOf taken) _ (symbolsOf rest) (symbolsOf us) e (rw map-append at h) (rw (map-append, map-append) at d)
 
   pub refused-where : (f : ℕ) (ts : List Placed) (r : List Symbol) → stepsOf (symbolsOf ts) ≤ f → wholeFrom text uncons f (symbolsOf ts) ≡ refused r → (rest : List Placed) × Refused text ts rest × (symbolsOf rest ≡ r)
   refused-where f ts r l h =
@@ -124,7 +124,7 @@ module _ (text : List ℕ) where
         record {
           taken = s .left;
           are = s .are;
-          begins = (o .more, (o .value, rw (symbols-append, s .lefts) (o .right)));
+          begins = (o .more, (o .value, rw (map-append, s .lefts) (o .right)));
           never = never-here f (s .left) (s .right) (rw (← s .are) l) (rw (← s .are, s .rights) h);
         },
         s .rights,

@@ -94,6 +94,10 @@ module _ (text : List ℕ) where
           let (x, i, q) = refuses text ts (s .lexed) p .1 r in
           scanned-judged s ∙ ap (λ a. byGrammar a text) i ∙ ap (refusal 4) q
 
+  -- A right expression is judged further by its tree, for 5 and 6: nothing else of the parser's definition counts.
+  pub right-judged : (ts : List Placed) (e : Tree) → Scanned text ts → Derives text expression (symbolsOf ts) e → judgedOf text ≡ byHeight (ltb 64 (heightOf e)) text e
+  right-judged ts e s d = let (x, i) = accepts text ts (s .lexed) e .1 d in scanned-judged s ∙ ap (λ a. byGrammar a text) i
+
   -- The tree of a fine text is the one that the grammar derives of its tokens.
   pub judged-fine : (e : Tree) → judgedOf text ≡ fine e → (ts : List Placed) × Scanned text ts × Derives text expression (symbolsOf ts) e
   judged-fine e h =

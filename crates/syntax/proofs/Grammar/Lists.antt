@@ -1,12 +1,9 @@
 -- Lists of symbols: the parser over them, and what tests see of a symbol.
-use mathlib.Core.Path.{_≡_, refl, ap}
+use mathlib.Core.Path.{_≡_, ap}
 use mathlib.Core.Bool.{Bool}
-use mathlib.Core.List.{List, [], _∷_, _++_}
+use mathlib.Core.List.{List, [], _∷_}
 use mathlib.Core.Option.{Option, none, some}
 use Prim.Native.Nat.{ℕ}
-use Rattle.lexer.specs.Tokens.{Placed, placed}
-use Rattle.syntax.specs.Symbol.{seen}
-use Rattle.syntax.specs.Place.{symbolsOf}
 use Rattle.syntax.specs.Parser.{Result}
 use Rattle.syntax.specs.declared.symbol.Symbol.{Symbol}
 
@@ -16,10 +13,6 @@ Parser A = List Symbol → Result (List Symbol) A
 abbrev pub uncons : List Symbol → Option (Symbol × List Symbol)
 uncons [] = none
 uncons (x ∷ xs) = some (x, xs)
-
-pub symbols-append : (ts us : List Placed) → symbolsOf (ts ++ us) ≡ symbolsOf ts ++ symbolsOf us
-symbols-append [] us = refl
-symbols-append (placed t at until ∷ ts) us = ap (λ xs. seen t at until ∷ xs) (symbols-append ts us)
 
 -- a symbol of the number n, at no place in particular
 abbrev pub made : ℕ → Symbol

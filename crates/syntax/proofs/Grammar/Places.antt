@@ -1,29 +1,29 @@
 -- Places do not matter to the grammar: a right list stays right with other places, and in another text.
-use mathlib.Core.Path.{_≡_, refl, ap, sym, _∙_}
+use mathlib.Core.Path.{_≡_, ap, sym, _∙_}
 use mathlib.Core.Bool.{Bool, true}
-use mathlib.Core.List.{List, [], _∷_, _++_}
+use mathlib.Core.List.{List, [], _∷_, _++_, map-append}
 use Prim.Native.Nat.{ℕ, suc}
 use native.Mathlib.Omega.{arith}
 use Rattle.lexer.specs.Tokens.{Placed, placed}
 use Rattle.syntax.specs.Symbol.{question, colon, openRound, closeRound, openSquare, closeSquare, comma, dot, word, numberOf, is, isLiteral, isIndex, isWord, isPrefix, levels, hasPrecedence}
 use Rattle.syntax.specs.Symbol as symbol
 use Rattle.syntax.specs.Grammar.{
-  Level,
+  Nonterminal,
   expression,
   binary,
   postfix,
   primary,
   arguments,
-  Of,
+  TreeOf,
   ‹_›,
   Derives,
   expression-binary,
   conditional,
   binary-unary,
   binary-lower,
-  operation,
+  binary-operation,
   unary-postfix,
-  sign,
+  unary-operation,
   postfix-primary,
   member,
   index,
@@ -50,10 +50,6 @@ likes [] [] h = like-none
 likes [] (placed t at until ∷ us) h = absurd (let z : _≡_ {A = ℕ} 0 1 = cc in omega arith)
 likes (placed t at until ∷ ts) [] h = absurd (let z : _≡_ {A = ℕ} 0 1 = cc in omega arith)
 likes (placed t at until ∷ ts) (placed t′ at′ until′ ∷ us) h = like-more (let i : numberOf t ≡ numberOf t′ = cc in i) (likes ts us (cc))
-
-pub numbers-append : (ts us : List Placed) → numbersOf (ts ++ us) ≡ numbersOf ts ++ numbersOf us
-numbers-append [] us = refl
-numbers-append (placed t at until ∷ ts) us = ap (λ ns. numberOf t ∷ ns) (numbers-append ts us)
 
 -- what is like two lists, one behind the other, is two lists
 data Cut (xs ys : List Symbol) : List Symbol → Type 0 where
@@ -85,15 +81,15 @@ passes test e h = sym (by-number test e) ∙ h
 -- ---- the levels
 
 module _ (text text′ : List ℕ) where
-  -- something of the level
-  record Some (L : Level) (ys : List Symbol) : Type 0 where
-    value : Of L
-    derives : Derives text′ L ys value
+  -- something of it
+  record Some (N : Nonterminal) (ys : List Symbol) : Type 0 where
+    value : TreeOf N
+    derives : Derives text′ N ys value
 
-  abbrev Moved : Level → List Symbol → Type 0
-  Moved L xs = (ys : List Symbol) → Like xs ys → Some L ys
+  abbrev Moved : Nonterminal → List Symbol → Type 0
+  Moved N xs = (ys : List Symbol) → Like xs ys → Some N ys
 
-  some : {L : Level} {ys : List Symbol} {a : Of L} → Derives text′ L ys a → Some L ys
+  some : {N : Nonterminal} {ys : List Symbol} {a : TreeOf N} → Derives text′ N ys a → Some N ys
   some {a = a} d = record { value = a; derives = d }
 
   module _ {xs ys : List Symbol} (x : Symbol) where
@@ -110,7 +106,7 @@ module _ (text text′ : List ℕ) where
     operation-moved k h a b zs l = go (joining xs x ys l)
       where
         go : {zs : List Symbol} → Joined xs x ys zs → Some (binary (suc k)) zs
-        go (joined y e l l₁) = some (operation y (passes (hasPrecedence (suc k)) e h) (a _ l .derives) (b _ l₁ .derives))
+        go (joined y e l l₁) = some (binary-operation y (passes (hasPrecedence (suc k)) e h) (a _ l .derives) (b _ l₁ .derives))
 
     next-moved : is comma x ≡ true → Moved expression xs → Moved arguments ys → Moved arguments (xs ++ ‹ x › ++ ys)
     next-moved h a b zs l = go (joining xs x ys l)
@@ -146,14 +142,14 @@ module _ (text text′ : List ℕ) where
         go : {zs : List Symbol} → Cut xs ‹ y › zs → Some primary (x′ ∷ zs)
         go (cut l (like-more {y = y′} e′ like-none)) = some (brackets x′ y′ (passes (is openRound) e h) (passes (is closeRound) e′ i) (a _ l .derives))
 
-  moved : {L : Level} {xs : List Symbol} {a : Of L} → Derives text L xs a → Moved L xs
+  moved : {N : Nonterminal} {xs : List Symbol} {a : TreeOf N} → Derives text N xs a → Moved N xs
   moved (expression-binary d) zs l = some (expression-binary (moved d zs l .derives))
   moved (conditional x y h i d d₁ d₂) zs l = branches-moved x y h i (λ zs l. moved d zs l) (λ zs l. moved d₁ zs l) (λ zs l. moved d₂ zs l) zs l
   moved (binary-unary d) zs l = some (binary-unary (moved d zs l .derives))
   moved (binary-lower d) zs l = some (binary-lower (moved d zs l .derives))
-  moved (operation {k} x h d d₁) zs l = operation-moved x k h (λ zs l. moved d zs l) (λ zs l. moved d₁ zs l) zs l
+  moved (binary-operation {k} x h d d₁) zs l = operation-moved x k h (λ zs l. moved d zs l) (λ zs l. moved d₁ zs l) zs l
   moved (unary-postfix d) zs l = some (unary-postfix (moved d zs l .derives))
-  moved (sign x h d) _ (like-more {y} e l) = some (sign y (passes isPrefix e h) (moved d _ l .derives))
+  moved (unary-operation x h d) _ (like-more {y} e l) = some (unary-operation y (passes isPrefix e h) (moved d _ l .derives))
   moved (postfix-primary d) zs l = some (postfix-primary (moved d zs l .derives))
   moved (member x y h i d) zs l = member-moved x y h i (λ zs l. moved d zs l) zs l
   moved (index x y z h i j d) zs l = index-moved x y z h i j (λ zs l. moved d zs l) zs l
@@ -171,4 +167,4 @@ module _ (text text′ : List ℕ) where
 
   -- So does what begins one.
   pub begins-free : (ts us : List Placed) → numbersOf ts ≡ numbersOf us → Begins text ts → Begins text′ us
-  begins-free ts us h (cs, r) = (cs, places-free (ts ++ cs) (us ++ cs) (numbers-append ts cs ∙ ap (λ ns. ns ++ numbersOf cs) h ∙ sym (numbers-append us cs)) r)
+  begins-free ts us h (cs, r) = (cs, places-free (ts ++ cs) (us ++ cs) (map-append _ ts cs ∙ ap (λ ns. ns ++ numbersOf cs) h ∙ sym (map-append _ us cs)) r)

@@ -1,7 +1,7 @@
 -- What the parser takes the grammar derives, and what it took before a refusal begins something right.
 use mathlib.Core.Path.{_≡_, refl}
 use mathlib.Core.Bool.{Bool, true, false}
-use mathlib.Core.List.{List, [], _∷_, _++_, append-assoc, append-nil}
+use mathlib.Core.List.{List, [], _∷_, _++_, append-assoc, append-nil, map-append}
 use Prim.Native.Nat.{ℕ, zero, suc}
 use Rattle.lexer.specs.Tokens.{Placed, placed}
 use Rattle.lexer.specs.declared.token.Token.{Token}
@@ -23,9 +23,9 @@ use Rattle.syntax.specs.Grammar.{
   conditional,
   binary-unary,
   binary-lower,
-  operation,
+  binary-operation,
   unary-postfix,
-  sign,
+  unary-operation,
   postfix-primary,
   member,
   index,
@@ -65,7 +65,7 @@ use Rattle.syntax.specs.Parser.{
   argumentsFrom,
 }
 use Rattle.syntax.specs.declared.symbol.Symbol.{Symbol}
-use Rattle.syntax.proofs.Grammar.Lists.{Parser, uncons, symbols-append}
+use Rattle.syntax.proofs.Grammar.Lists.{Parser, uncons}
 
 -- ---- what is said
 
@@ -90,7 +90,7 @@ pub record Sound {A : Type 0} (P : List Symbol → A → Type 0) (p : List Symbo
 
 module _ {A : Type 0} {P : List Symbol → A → Type 0} where
   shorter : (p : List Symbol) (ts : List Placed) → Opens P (p ++ symbolsOf ts) → Opens P p
-  shorter p ts o = record { more = ts ++ o .more; value = o .value; right = rw (symbols-append, ← append-assoc) (o .right) }
+  shorter p ts o = record { more = ts ++ o .more; value = o .value; right = rw (map-append, ← append-assoc) (o .right) }
 
   whole-of : {p : List Symbol} (a : A) → P p a → Opens P p
   whole-of a d = record { more = []; value = a; right = rw append-nil d }
@@ -163,11 +163,11 @@ module _ {A : Type 0} {P Q : List Symbol → A → Type 0} (up : (q : List Symbo
 
 module _ (text : List ℕ) where
   -- the branches of a conditional, with the `:` between them
-  data Forks : List Symbol → Branches → Type 0 where
-    forks : {xs ys : List Symbol} {a b : Tree} (y : Symbol) → is colon y ≡ true → Derives text expression xs a → Derives text expression ys b → Forks (xs ++ ‹ y › ++ ys) (branches (y .at) a b)
+  data Branched : List Symbol → Branches → Type 0 where
+    branched : {xs ys : List Symbol} {a b : Tree} (y : Symbol) → is colon y ≡ true → Derives text expression xs a → Derives text expression ys b → Branched (xs ++ ‹ y › ++ ys) (branches (y .at) a b)
 
-  fork : (cs : List Symbol) (c : Tree) (x : Symbol) (q : List Symbol) (b : Branches) → is question x ≡ true → Derives text (binary levels) cs c → Forks q b → Derives text expression (cs ++ ‹ x › ++ q) (chosen (x .at) c b)
-  fork cs c x _ _ h d (forks {xs} {ys} {a} {b} y i d₁ d₂) =
+  with-branches : (cs : List Symbol) (c : Tree) (x : Symbol) (q : List Symbol) (b : Branches) → is question x ≡ true → Derives text (binary levels) cs c → Branched q b → Derives text expression (cs ++ ‹ x › ++ q) (chosen (x .at) c b)
+  with-branches cs c x _ _ h d (branched {xs} {ys} {a} {b} y i d₁ d₂) =
       let same : cs ++ ‹ x › ++ (xs ++ ‹ y › ++ ys) ≡ cs ++ ‹ x › ++ xs ++ ‹ y › ++ ys = simp append-assoc in
       rw same (conditional x y h i d d₁ d₂)
 
@@ -205,11 +205,11 @@ module _ (text : List ℕ) where
     pub expression-sound : (f : ℕ) → Sound (Derives text expression) [] (expressionFrom text uncons f)
     expression-sound zero = sound-nothing (opened leaf leaf-expression)
     expression-sound (suc f) =
-        sound-then (level-sound f levels) (λ cs c d. sound-ask (is question) (λ x h. sound-then (branches-sound f) (λ q b d′. sound-part (fork cs c x q b h d d′))) (sound-part (expression-binary d)))
+        sound-then (level-sound f levels) (λ cs c d. sound-ask (is question) (λ x h. sound-then (branches-sound f) (λ q b d′. sound-part (with-branches cs c x q b h d d′))) (sound-part (expression-binary d)))
 
-    branches-sound : (f : ℕ) → Sound Forks [] (branchesFrom text uncons f)
-    branches-sound zero = sound-nothing (record { more = placed (Word 0) 0 0 ∷ placed (Punctuator 1) 0 0 ∷ placed (Word 0) 0 0 ∷ []; value = branches 0 leaf leaf; right = forks (seen (Punctuator 1) 0 0) refl leaf-expression leaf-expression })
-    branches-sound (suc f) = sound-then (expression-sound f) (λ _ _ d. sound-expect (is colon) (Punctuator 1) refl (λ y i. sound-then (expression-sound f) (λ _ _ d′. sound-part (forks y i d d′))))
+    branches-sound : (f : ℕ) → Sound Branched [] (branchesFrom text uncons f)
+    branches-sound zero = sound-nothing (record { more = placed (Word 0) 0 0 ∷ placed (Punctuator 1) 0 0 ∷ placed (Word 0) 0 0 ∷ []; value = branches 0 leaf leaf; right = branched (seen (Punctuator 1) 0 0) refl leaf-expression leaf-expression })
+    branches-sound (suc f) = sound-then (expression-sound f) (λ _ _ d. sound-expect (is colon) (Punctuator 1) refl (λ y i. sound-then (expression-sound f) (λ _ _ d′. sound-part (branched y i d d′))))
 
     level-sound : (f k : ℕ) → Sound (Derives text (binary k)) [] (levelFrom text uncons f k)
     level-sound zero k = sound-nothing (opened leaf (leaf-binary k))
@@ -218,11 +218,11 @@ module _ (text : List ℕ) where
 
     tail-sound : (f k : ℕ) {p : List Symbol} {e : Tree} → Derives text (binary (suc k)) p e → Sound (Derives text (binary (suc k))) p (tailFrom text uncons f k e)
     tail-sound zero k {p} {e} d = sound-nothing (whole-of e d)
-    tail-sound (suc f) k d = sound-ask (hasPrecedence (suc k)) (λ x h. sound-then (level-sound f k) (λ _ _ d′. tail-sound f k (operation x h d d′))) (sound-part d)
+    tail-sound (suc f) k d = sound-ask (hasPrecedence (suc k)) (λ x h. sound-then (level-sound f k) (λ _ _ d′. tail-sound f k (binary-operation x h d d′))) (sound-part d)
 
     unary-sound : (f : ℕ) → Sound (Derives text unary) [] (unaryFrom text uncons f)
     unary-sound zero = sound-nothing (opened leaf (unary-postfix (postfix-primary leaf-primary)))
-    unary-sound (suc f) = sound-ask isPrefix (λ x h. sound-then (unary-sound f) (λ _ _ d. sound-part (sign x h d))) (sound-up (λ _ _ d. unary-postfix d) (postfix-sound f))
+    unary-sound (suc f) = sound-ask isPrefix (λ x h. sound-then (unary-sound f) (λ _ _ d. sound-part (unary-operation x h d))) (sound-up (λ _ _ d. unary-postfix d) (postfix-sound f))
 
     postfix-sound : (f : ℕ) → Sound (Derives text postfix) [] (postfixFrom text uncons f)
     postfix-sound zero = sound-nothing (opened leaf (postfix-primary leaf-primary))

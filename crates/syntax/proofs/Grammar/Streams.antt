@@ -18,7 +18,7 @@ use Rattle.syntax.specs.Symbol.{end, numberOf, seen, symbolOf, symbolAt,
 use Rattle.syntax.specs.Place.{symbolsOf, placeOf}
 use Rattle.syntax.specs.Parser.{Result, part, refused, spent, onPart, andThen, tested, ask, atEnd, wholeFrom, inText}
 use Rattle.syntax.specs.declared.symbol.Symbol.{Symbol}
-use Rattle.syntax.proofs.Law.Symbols.{number-end}
+use Rattle.syntax.proofs.Law.Symbols.{token-number}
 use Rattle.syntax.proofs.Grammar.Lists.{Parser, uncons}
 use Rattle.syntax.proofs.Grammar.Kept.{Le, Kept, whole-kept}
 
@@ -111,7 +111,7 @@ module _ (text : List ℕ) where
       let r = on until (omega (arith, a)) (a .ends) in
       record {
         symbols = seen t at until ∷ r .symbols;
-        streams = goes (ne-eqb (numberOf t) 36 (λ i. number-end t i)) (r .streams);
+        streams = goes (ne-eqb (numberOf t) 36 (token-number t .1)) (r .streams);
         few = omega (arith, a, r .few);
         tokens-are = λ ts h. found-are t at until (r .symbols) (tokensFrom text until) (λ ts i. r .tokens-are ts i) ts (sym (on-found text from t at until e) ∙ h);
       }

@@ -7,14 +7,14 @@ use native.Mathlib.Omega.{arith}
 use Rattle.lexer.specs.Tokens.{Placed, tokens, tokensOf}
 use Rattle.tree.specs.Tree.{Tree}
 use Rattle.syntax.specs.Grammar.{expression, Derives}
-use Rattle.syntax.specs.Place.{symbolsOf, Right, placeOf, RefusedAt}
+use Rattle.syntax.specs.Place.{symbolsOf, Right, Refused, placeOf, RefusedAt}
 use Rattle.syntax.specs.Parser.{Result, part, refused, spent, wholeFrom, stepsFor, parseOf}
 use Rattle.syntax.specs.declared.symbol.Symbol.{Symbol}
 use Rattle.syntax.proofs.Grammar.Lists.{uncons}
 use Rattle.syntax.proofs.Grammar.Kept.{le-of}
 use Rattle.syntax.proofs.Grammar.Lasts.{list-lasts}
 use Rattle.syntax.proofs.Grammar.Decides.{stepsOf, taken-right, one-tree, one-rest, never-both, refused-where}
-use Rattle.syntax.proofs.Grammar.Streams.{Streams, stream-place, Alike, parts, refusals, nothing-left, whole-over, listed}
+use Rattle.syntax.proofs.Grammar.Streams.{stream-place, Alike, parts, refusals, nothing-left, whole-over, listed}
 
 module _ (text : List ℕ) where
   -- ---- one answer
@@ -31,14 +31,27 @@ module _ (text : List ℕ) where
   abbrev listAnswer : List Symbol → Result (List Symbol) Tree
   listAnswer xs = wholeFrom text uncons (stepsOf xs) xs
 
-  -- All others are refused somewhere.
-  pub right-or-refused : (ts : List Placed) → Right text ts ⊎ ((p : ℕ) × RefusedAt text ts p)
-  right-or-refused ts = go (listAnswer (symbolsOf ts)) refl
-    where
-      go : (a : Result (List Symbol) Tree) → listAnswer (symbolsOf ts) ≡ a → Right text ts ⊎ ((p : ℕ) × RefusedAt text ts p)
-      go (part e r) h = inl (e, taken-right text (stepsOf (symbolsOf ts)) (symbolsOf ts) e r h)
-      go (refused r) h = let (rest, i, j) = refused-where text (stepsOf (symbolsOf ts)) ts r (omega arith) h in inr (placeOf text rest, (rest, i, refl))
-      go spent h = absurd (list-lasts text (stepsOf (symbolsOf ts)) (symbolsOf ts) (omega arith) h)
+  module _ (ts : List Placed) where
+    -- its answer by the grammar
+    data ListDecided : Result (List Symbol) Tree → Type 0 where
+      list-right : (e : Tree) (r : List Symbol) → Derives text expression (symbolsOf ts) e → ListDecided (part e r)
+      list-wrong : (rest : List Placed) → Refused text ts rest → ListDecided (refused (symbolsOf rest))
+
+    list-decided : ListDecided (listAnswer (symbolsOf ts))
+    list-decided = go (listAnswer (symbolsOf ts)) refl
+      where
+        go : (a : Result (List Symbol) Tree) → listAnswer (symbolsOf ts) ≡ a → ListDecided a
+        go (part e r) h = list-right e r (taken-right text (stepsOf (symbolsOf ts)) (symbolsOf ts) e r h)
+        go (refused r) h = let (rest, i, j) = refused-where text (stepsOf (symbolsOf ts)) ts r (omega arith) h in rw (← j) (list-wrong rest i)
+        go spent h = absurd (list-lasts text (stepsOf (symbolsOf ts)) (symbolsOf ts) (omega arith) h)
+
+    -- All others are refused somewhere.
+    pub right-or-refused : Right text ts ⊎ ((p : ℕ) × RefusedAt text ts p)
+    right-or-refused = go list-decided
+      where
+        go : {a : Result (List Symbol) Tree} → ListDecided a → Right text ts ⊎ ((p : ℕ) × RefusedAt text ts p)
+        go (list-right e r d) = inl (e, d)
+        go (list-wrong rest h) = inr (placeOf text rest, (rest, h, refl))
 
   -- ---- the parser's
 
@@ -56,21 +69,18 @@ module _ (text : List ℕ) where
       go _ e _ h nothing-left = list-lasts text (stepsOf (listed text .symbols)) (listed text .symbols) (omega arith) e
 
   module _ (ts : List Placed) where
-    -- an answer by the grammar
+    -- the text's answer by the grammar
     data Decided : Result Symbol Tree → Type 0 where
       right : (e : Tree) (x : Symbol) → Derives text expression (symbolsOf ts) e → Decided (part e x)
       wrong : (x : Symbol) → RefusedAt text ts (x .at) → Decided (refused x)
 
-    decided-as : {a : Result (List Symbol) Tree} {b : Result Symbol Tree} → listAnswer (symbolsOf ts) ≡ a → Alike text a b → Decided b
-    decided-as h (parts e {x} {xs = r} s) = right e x (taken-right text (stepsOf (symbolsOf ts)) (symbolsOf ts) e r h)
-    decided-as h (refusals {x} {xs = r} s) =
-        let (rest, i, j) = refused-where text (stepsOf (symbolsOf ts)) ts r (omega arith) h in
-        wrong x (rest, i, stream-place text rest (subst (λ xs. Streams text x xs) (sym j) s))
-    decided-as h nothing-left = absurd (list-lasts text (stepsOf (symbolsOf ts)) (symbolsOf ts) (omega arith) h)
+    decided-as : {a : Result (List Symbol) Tree} {b : Result Symbol Tree} → ListDecided ts a → Alike text a b → Decided b
+    decided-as (list-right e r d) (parts _ {x} s) = right e x d
+    decided-as (list-wrong rest h) (refusals {x} s) = wrong x (rest, h, stream-place text rest s)
 
     module _ (lexed : tokensOf text ≡ tokens ts) where
       decided : Decided (parseOf text)
-      decided = decided-as (ap listAnswer (sym (listed text .tokens-are ts lexed))) alike
+      decided = decided-as (list-decided ts) (subst (λ xs. Alike text (listAnswer xs) (parseOf text)) (listed text .tokens-are ts lexed) alike)
 
       -- A text is taken with a tree exactly if the grammar derives that tree of its tokens.
       pub accepts : (e : Tree) → ((x : Symbol) × (parseOf text ≡ part e x)) ↔ Derives text expression (symbolsOf ts) e

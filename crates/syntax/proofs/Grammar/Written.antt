@@ -1,7 +1,7 @@
 -- A right list of tokens can be written, so what begins a right expression begins one that is a text.
 use mathlib.Core.Path.{_≡_, refl, ap, sym, subst, _∙_}
 use mathlib.Core.Bool.{Bool, true, _&&_, and-eq-true-iff}
-use mathlib.Core.List.{List, [], _∷_, _++_, map}
+use mathlib.Core.List.{List, [], _∷_, _++_, map, map-map, map-append}
 use Prim.Native.Nat.{ℕ, zero, suc, _+_, _<_}
 use native.Mathlib.Nat.{zero-add, add-zero}
 use native.Mathlib.Omega.{arith}
@@ -13,26 +13,26 @@ use Rattle.lexer.specs.Bytes.{ascii}
 use Rattle.lexer.specs.Punctuator.{punctuators}
 use Rattle.lexer.specs.Spelling.{Spells, Munch}
 use Rattle.lexer.specs.Token.{literalWords, lexemeAt}
-use Rattle.lexer.specs.Tokens.{Placed, placed, tokens}
+use Rattle.lexer.specs.Tokens.{Placed, placed, tokenOf, tokens}
 use Rattle.lexer.specs.declared.token.Token.{Token}
 use Rattle.lexer.specs.declared.token.Lexeme.{Lexeme}
 use Rattle.lexer.specs.declared.token.Lexeme.the-variants.{Found, Bad, End}
 use Rattle.lexer.proofs.Munch.{munch}
-use Rattle.lexer.proofs.Parted.{Spelled, done, more, unplaced, parted}
+use Rattle.lexer.proofs.Parted.{Spelled, done, more, parted}
 use Rattle.syntax.specs.Symbol.{question, colon, openRound, closeRound, openSquare, closeSquare, comma, dot, word, numberOf, symbolOf, symbolAt}
 use Rattle.syntax.specs.Symbol as symbol
 use Rattle.syntax.specs.Grammar.{
-  Level,
-  Of,
+  Nonterminal,
+  TreeOf,
   ‹_›,
   Derives,
   expression-binary,
   conditional,
   binary-unary,
   binary-lower,
-  operation,
+  binary-operation,
   unary-postfix,
-  sign,
+  unary-operation,
   postfix-primary,
   member,
   index,
@@ -47,7 +47,7 @@ use Rattle.syntax.specs.Grammar.{
 use Rattle.syntax.specs.Place.{symbolsOf, numbersOf, Right, Begins, RightText}
 use Rattle.syntax.specs.declared.symbol.Symbol.{Symbol}
 use Rattle.syntax.proofs.Laid.{low-is, low-literal, low-index, low-word, low-prefix, low-operator}
-use Rattle.syntax.proofs.Grammar.Places.{numbers-append, places-free}
+use Rattle.syntax.proofs.Grammar.Places.{places-free}
 
 -- ---- the numbers of right symbols
 
@@ -65,14 +65,14 @@ low-between : (xs : List Symbol) (x : Symbol) (ys : List Symbol) → Low xs → 
 low-between xs x ys h l k = low-append (xs ++ ‹ x ›) ys (low-append xs ‹ x › h (l, tt)) k
 
 module _ (text : List ℕ) where
-  low-of : {L : Level} {xs : List Symbol} {e : Of L} → Derives text L xs e → Low xs
+  low-of : {N : Nonterminal} {xs : List Symbol} {e : TreeOf N} → Derives text N xs e → Low xs
   low-of (expression-binary d) = low-of d
   low-of (conditional {xs} {ys} {zs} x y h i d d₁ d₂) = low-between (xs ++ ‹ x › ++ ys) y zs (low-between xs x ys (low-of d) (low-is question (omega arith) x h) (low-of d₁)) (low-is colon (omega arith) y i) (low-of d₂)
   low-of (binary-unary d) = low-of d
   low-of (binary-lower d) = low-of d
-  low-of (operation {k} {xs} {ys} x h d d₁) = low-between xs x ys (low-of d) (low-operator k x h) (low-of d₁)
+  low-of (binary-operation {k} {xs} {ys} x h d d₁) = low-between xs x ys (low-of d) (low-operator k x h) (low-of d₁)
   low-of (unary-postfix d) = low-of d
-  low-of (sign x h d) = (low-prefix x h, low-of d)
+  low-of (unary-operation x h d) = (low-prefix x h, low-of d)
   low-of (postfix-primary d) = low-of d
   low-of (member {xs} x y h i d) = low-between xs x ‹ y › (low-of d) (low-is dot (omega arith) x h) (low-word y i, tt)
   low-of (index {xs} x y z h i j d) = low-between (xs ++ ‹ x ›) y ‹ z › (low-append xs ‹ x › (low-of d) (low-is openSquare (omega arith) x h, tt)) (low-index y i) (low-is closeSquare (omega arith) z j, tt)
@@ -150,18 +150,14 @@ text-of (placed t at until ∷ ts) (l, h) =
       numbers = ap (λ m. m ∷ map numberOf (r .kinds)) (s .number) ∙ ap (λ ns. numberOf t ∷ ns) (r .numbers);
     }
 
-numbers-unplaced : (ts : List Placed) → map numberOf (unplaced ts) ≡ numbersOf ts
-numbers-unplaced [] = refl
-numbers-unplaced (placed t at until ∷ ts) = ap (λ ns. numberOf t ∷ ns) (numbers-unplaced ts)
-
 -- Right tokens can be written: some text has tokens with their numbers, and is a right expression.
 pub right-text : (text : List ℕ) (ts : List Placed) → Right text ts → RightText (numbersOf ts)
 right-text text ts r =
     let w = text-of ts (low-of text (r .1)) in
     let (us, lexed, same) = parted (w .spelled) in
-    let n : numbersOf us ≡ numbersOf ts = sym (numbers-unplaced us) ∙ ap (map numberOf) same ∙ w .numbers in
-    record { text = w .bytes; its = us; lexed = lexed; numbered = n; right = places-free text (w .bytes) ts us (sym n) r }
+    let n : numbersOf us ≡ numbersOf ts = sym (map-map numberOf tokenOf us) ∙ ap (map numberOf) same ∙ w .numbers in
+    record { text = w .bytes; ts = us; lexed = lexed; numbered = n; right = places-free text (w .bytes) ts us (sym n) r }
 
 -- So what begins a right expression begins one that is a text.
 pub begins-text : (text : List ℕ) (ts : List Placed) → Begins text ts → (ns : List ℕ) × RightText (numbersOf ts ++ ns)
-begins-text text ts (us, r) = (numbersOf us, subst RightText (numbers-append ts us) (right-text text (ts ++ us) r))
+begins-text text ts (us, r) = (numbersOf us, subst RightText (map-append _ ts us) (right-text text (ts ++ us) r))

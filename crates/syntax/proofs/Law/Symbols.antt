@@ -37,37 +37,24 @@ digits-below n k =
 word-below : (k : ℕ) → numberOf (Word k) < 35
 word-below k = by-test (λ (m : ℕ). m < 35) (ltb k 6) (λ e. omega (arith, ltb-true k 6 e)) (λ e. omega arith)
 
-word-apart : (k : ℕ) → numberOf (Word k) ≡ 35 → ⊥
-word-apart k e = omega (arith, word-below k)
-
-punctuator-apart : (k : ℕ) → (numberOf (Punctuator k) < 38) × (numberOf (Punctuator k) ≡ 35 → ⊥)
+punctuator-apart : (k : ℕ) → (numberOf (Punctuator k) < 38) × (numberOf (Punctuator k) ≡ 35 → ⊥) × (numberOf (Punctuator k) ≡ 36 → ⊥)
 punctuator-apart k =
-    by-test (λ (m : ℕ). (m < 38) × (m ≡ 35 → ⊥)) (ltb k 22) (λ e. (let h = ltb-true k 22 e in (omega arith, λ q. omega arith))) (λ e. (omega arith, λ q. omega arith))
+    by-test (λ (m : ℕ). (m < 38) × (m ≡ 35 → ⊥) × (m ≡ 36 → ⊥)) (ltb k 22) (λ e. (let h = ltb-true k 22 e in (omega arith, λ q. omega arith, λ q. omega arith))) (λ e. (omega arith, λ q. omega arith, λ q. omega arith))
 
-number-below : (t : Token) → numberOf t < 38
-number-below (Number n k) = omega (arith, digits-below n k)
-number-below String = omega arith
-number-below Variable = omega arith
-number-below (Word k) = omega (arith, word-below k)
-number-below (Punctuator k) = punctuator-apart k .0
-
-punctuator-end : (k : ℕ) → numberOf (Punctuator k) ≡ 36 → ⊥
-punctuator-end k = by-test (λ (m : ℕ). m ≡ 36 → ⊥) (ltb k 22) (λ e. (let h = ltb-true k 22 e in λ q. omega arith)) (λ e. λ q. omega arith)
-
--- no token has the number of the end
-pub number-end : (t : Token) → numberOf t ≡ 36 → ⊥
-number-end (Number n k) e = omega (arith, digits-below n k)
-number-end String e = omega arith
-number-end Variable e = omega arith
-number-end (Word k) e = omega (arith, word-below k)
-number-end (Punctuator k) e = punctuator-end k e
+-- and no token has the number of the end
+pub token-number : (t : Token) → (numberOf t < 38) × (numberOf t ≡ 36 → ⊥)
+token-number (Number n k) = (omega (arith, digits-below n k), λ e. omega (arith, digits-below n k))
+token-number String = (omega arith, λ e. omega arith)
+token-number Variable = (omega arith, λ e. omega arith)
+token-number (Word k) = (omega (arith, word-below k), λ e. omega (arith, word-below k))
+token-number (Punctuator k) = let h = punctuator-apart k in (h .0, h .2)
 
 -- 35 is the number of variables only, and these have more than one byte
 long-spelled : {s : List ℕ} {t : Token} → Spells s t → numberOf t ≡ 35 → 1 < length s
 long-spelled (number {n = n} {k = k} d h) e = absurd (omega (arith, digits-below n k))
 long-spelled (string q bs h a) e = absurd (omega arith)
 long-spelled (variable bs a h) e = omega arith
-long-spelled (word b bs h a) e = absurd (word-apart (placeIn literalWords (b ∷ bs)) e)
+long-spelled (word b bs h a) e = absurd (omega (arith, word-below (placeIn literalWords (b ∷ bs))))
 long-spelled (punctuator {s} m) e = absurd (punctuator-apart (placeIn punctuators s) .1 e)
 
 -- ---- the symbol at a place
@@ -84,7 +71,7 @@ later-of text from (Bad at end) a h = a .starts
 later-of text from End a h = h
 
 number-of : (text : List ℕ) (x : Lexeme) → symbolOf text x .number < 38
-number-of text (Found t at end) = number-below t
+number-of text (Found t at end) = token-number t .0
 number-of text (Bad at end) = omega arith
 number-of text End = omega arith
 
