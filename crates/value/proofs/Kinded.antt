@@ -20,7 +20,9 @@ use Rattle.kind.specs.declared.operation.Operation.the-variants as op
 use Rattle.kind.proofs.Law.Choices.{kind-is}
 use Rattle.kind.proofs.Law.Signatures.{every-result}
 use Rattle.value.specs.Value.{kindOf}
-use Rattle.value.specs.Meaning.{byComponent, constructed, productOf, madeOf, Outcome, fault, value, outcome, operand, meaning}
+use Rattle.value.specs.Meaning.{byComponent, constructed, productOf, madeOf, outcome, operand, meaning}
+use Rattle.value.specs.declared.apply.Outcome.{Outcome}
+use Rattle.value.specs.declared.apply.Outcome.the-variants as outcome-of
 use Rattle.value.specs.declared.value.Span.{Span}
 use Rattle.value.specs.declared.value.Value.{Value}
 
@@ -94,8 +96,8 @@ made-kind text (op.Pick m) k a b c d h = kind-is kind.Number k h
 
 -- the kind of a value, or a fault
 abbrev pub ruled : Outcome → Ruled
-ruled fault = Fault
-ruled (value v) = Gives (kindOf v)
+ruled outcome-of.Fault = Fault
+ruled (outcome-of.Worked v) = Gives (kindOf v)
 
 pub kinded : (text : Span → List ℕ) (o : Operation) (vs : List Value) → ruled (meaning text o vs) ≡ ruleOf o (map kindOf vs)
 unfolding meaning

@@ -8,7 +8,8 @@ use Rattle.kind.specs.declared.operation.Operation.the-variants as op
 use Rattle.kind.specs.declared.kind.Ruled.{Ruled}
 use Rattle.value.specs.Value.{at}
 use Rattle.value.specs.Scalar.{unaryOf, binaryOf, ternaryOf}
-use Rattle.value.specs.Meaning.{Outcome, outcome, madeOf}
+use Rattle.value.specs.Meaning.{outcome, madeOf}
+use Rattle.value.specs.declared.apply.Outcome.{Outcome}
 use Rattle.value.specs.declared.value.Span.{Span}
 use Rattle.value.specs.declared.value.Value.{Value}
 

@@ -29,6 +29,8 @@ use Rattle.colour.specs.declared.text.Named.the-variants.{Known, Unknown}
 use Rattle.value.specs.Value.{kindOf, componentsOf, at, truth, span}
 use Rattle.value.specs.Scalar.{unaryOf, binaryOf, ternaryOf, orderOf, testOf}
 use Rattle.value.specs.Equality.{equalOf}
+use Rattle.value.specs.declared.apply.Outcome.{Outcome}
+use Rattle.value.specs.declared.apply.Outcome.the-variants as outcome-of
 use Rattle.value.specs.declared.value.Span.{Span}
 use Rattle.value.specs.declared.value.Value.{Value}
 use Rattle.value.specs.declared.value.Value.the-variants.{Undefined, Null, Boolean, Number, String, Vec2, Vec3, Vec4}
@@ -127,14 +129,10 @@ madeOf text (op.Constructor f) k a b c d = constructed text f a b c d
 madeOf text (op.Product f) k a b c d = productOf f a b
 madeOf text (op.Pick m) k a b c d = Number (at (indexOf m) a)
 
--- a value, or a fault
-pub data Outcome : Type 0 where
-  fault : Outcome
-  value : Value → Outcome
-
+-- a fault, or the value that is made at the kind which the rule gives
 abbrev pub outcome : Ruled → (Kind → Value) → Outcome
-outcome Fault made = fault
-outcome (Gives k) made = value (made k)
+outcome Fault made = outcome-of.Fault
+outcome (Gives k) made = outcome-of.Worked (made k)
 
 -- an operand by its place
 abbrev pub operand : ℕ → List Value → Value
@@ -144,8 +142,3 @@ operand i vs = getD vs i Undefined
 unfoldable pub meaning : (Span → List ℕ) → Operation → List Value → Outcome
 meaning text o vs =
     outcome (ruleOf o (map kindOf vs)) (λ k. madeOf text o k (operand 0 vs) (operand 1 vs) (operand 2 vs) (operand 3 vs))
-
--- what the code answers: a checked style meets no fault
-abbrev pub settle : Outcome → Value
-settle fault = Undefined
-settle (value v) = v

@@ -10,6 +10,7 @@ use number::bits::from_bits;
 use value::apply::apply0;
 use value::apply::apply1;
 use value::apply::apply2;
+use value::apply::Outcome;
 use value::value::Span;
 use value::value::Value;
 use value::value::colour_of;
@@ -26,7 +27,7 @@ pub(crate) fn is_well_formed(head: &[u8]) -> bool {
         & (line::byte(head, 0) < b'3')
 }
 
-fn given(head: &[u8], style: &[u8]) -> Value {
+fn given(head: &[u8], style: &[u8]) -> Outcome {
     let color = Operation::Constructor(Constructor::Color);
     let word = Value::String(Span {
         literal: true,
@@ -43,7 +44,7 @@ fn given(head: &[u8], style: &[u8]) -> Value {
 }
 
 pub(crate) fn agrees(name: &[u8], head: &[u8], style: &[u8]) -> bool {
-    let got = given(head, style);
+    let got = values::of_outcome(given(head, style));
     if (values::kind_number(got) == VEC4) & doubles::agree(head, 57, colour_of(got)) {
         return true;
     }

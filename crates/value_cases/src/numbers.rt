@@ -10,6 +10,7 @@ use value::apply::apply1;
 use value::apply::apply2;
 use value::apply::apply3;
 use value::apply::apply4;
+use value::apply::Outcome;
 use value::value::Value;
 ghost use Prim.Native.Nat.{_≤_};
 
@@ -55,7 +56,7 @@ fn operand(head: &[u8], at: usize) -> Value
 }
 
 // There is no String, so the texts do not matter.
-fn given(head: &[u8], operation: Operation) -> Value {
+fn given(head: &[u8], operation: Operation) -> Outcome {
     let a = operand(head, 5);
     let b = operand(head, 71);
     let c = operand(head, 137);
@@ -79,7 +80,7 @@ fn is_wanted(head: &[u8], v: Value) -> bool {
 }
 
 pub(crate) fn agrees(name: &[u8], head: &[u8]) -> bool {
-    let got = given(head, operations::of_line(head));
+    let got = values::of_outcome(given(head, operations::of_line(head)));
     if is_wanted(head, got) {
         return true;
     }

@@ -42,13 +42,13 @@ fn operand(head: &[u8], at: usize) -> Value
 }
 
 fn texts_agree(name: &[u8], head: &[u8], style: &[u8], feature: &[u8]) -> bool {
-    let got = apply2(
+    let got = values::of_outcome(apply2(
         style,
         feature,
         operations::of_line(head),
         operand(head, 11),
         operand(head, 49),
-    );
+    ));
     let same = values::truth(got) == line::number(head, 87, 88);
     if same & (values::kind_number(got) == BOOLEAN) {
         return true;

@@ -5,6 +5,7 @@ use kind::kind::dimension;
 use kind::kind::number;
 use number::bits::from_bits;
 use number::bits::to_bits;
+use value::apply::Outcome;
 use value::value::Value;
 use value::value::component;
 use value::value::is_true;
@@ -20,6 +21,14 @@ pub(crate) fn of_patterns(kind: u8, x: u64, y: u64, z: u64, w: u64) -> Value {
         b'6' => Value::Vec3(from_bits(x), from_bits(y), from_bits(z)),
         b'7' => Value::Vec4(from_bits(x), from_bits(y), from_bits(z), from_bits(w)),
         _ => Value::Undefined,
+    }
+}
+
+// What the files have for what is worked out: a fault is Undefined there, which no operation gives.
+pub(crate) fn of_outcome(outcome: Outcome) -> Value {
+    match outcome {
+        Outcome::Fault => Value::Undefined,
+        Outcome::Worked(v) => v,
     }
 }
 
