@@ -26,6 +26,17 @@ impl Kinds {
         vec4: false,
     };
 
+    pub const ALL: Kinds = Kinds {
+        undefined: true,
+        null: true,
+        boolean: true,
+        number: true,
+        string: true,
+        vec2: true,
+        vec3: true,
+        vec4: true,
+    };
+
     pub const UNDEFINED: Kinds = Kinds {
         undefined: true,
         null: false,

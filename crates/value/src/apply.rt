@@ -37,9 +37,7 @@ fn settled(
 {
     match ruled {
         Ruled::Fault => Outcome::Fault,
-        Ruled::Gives(kind) => {
-            Outcome::Worked(make(style, feature, operation, kind, a, b, c, d))
-        }
+        Ruled::Gives(kind) => { Outcome::Worked(make(style, feature, operation, kind, a, b, c, d)) }
     }
 }
 

@@ -22,7 +22,7 @@ pub(crate) fn least(a: usize, b: usize) -> usize
 }
 
 // Whether parts of two texts are the same. A part goes no further than its text.
-fn same_part(a: &[u8], start: usize, end: usize, b: &[u8], from: usize, to: usize) -> bool
+pub fn same_part(a: &[u8], start: usize, end: usize, b: &[u8], from: usize, to: usize) -> bool
     ensures { λ r. ⌜ r ≡ same (slice start end (now (a .entry))) (slice from to (now (b .entry))) ⌝ }
 {
     let stop = least(end, a.len());

@@ -5,12 +5,12 @@ use crate::report;
 use crate::values;
 use cases::line;
 use kind::operation::Operation;
+use value::apply::Outcome;
 use value::apply::apply0;
 use value::apply::apply1;
 use value::apply::apply2;
 use value::apply::apply3;
 use value::apply::apply4;
-use value::apply::Outcome;
 use value::value::Value;
 ghost use Prim.Native.Nat.{_≤_};
 

@@ -1,0 +1,6 @@
+pub mod Literal
+pub mod Values
+pub mod Eval
+pub mod Arrays
+pub mod Demand
+pub mod Inner
