@@ -1,2 +1,4 @@
+pub mod Names
+pub mod Tokens
 pub mod Operators
 pub mod Checks

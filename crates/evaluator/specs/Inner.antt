@@ -12,16 +12,16 @@ use Rattle.tree.specs.Node.{argumentAt}
 use Rattle.tree.specs.declared.node.Argument.{Argument}
 use Rattle.tree.specs.declared.node.Argument.the-variants.{Last, Next}
 use Rattle.checker.specs.Operator.{or, and}
-use Rattle.evaluator.specs.declared.evaluate.Tested.{Tested}
-use Rattle.evaluator.specs.declared.evaluate.Tested.the-variants as tested
-use Rattle.evaluator.specs.declared.evaluate.Places.{Places}
-use Rattle.evaluator.specs.declared.evaluate.Places.the-variants as places
+use Rattle.evaluator.specs.declared.truth.Truth.{Truth}
+use Rattle.evaluator.specs.declared.truth.Truth.the-variants as truth-of
+use Rattle.evaluator.specs.declared.arguments.Places.{Places}
+use Rattle.evaluator.specs.declared.arguments.Places.the-variants as places
 
 -- ---- tests
 
-abbrev pub testedOf : Outcome → Tested
-testedOf Fault = tested.Fault
-testedOf (Worked v) = cond (eqKind kind.Boolean (kindOf v)) (cond (truth v) tested.True tested.False) tested.Fault
+abbrev pub testedOf : Outcome → Truth
+testedOf Fault = truth-of.Fault
+testedOf (Worked v) = cond (eqKind kind.Boolean (kindOf v)) (cond (truth v) truth-of.True truth-of.False) truth-of.Fault
 
 -- ---- binary operators
 
@@ -29,10 +29,10 @@ abbrev pub isLogical : ℕ → Bool
 isLogical o = eqb o or || eqb o and
 
 -- whether the left side, as it was tested, decides alone
-abbrev pub decidesBy : Tested → ℕ → Bool
-decidesBy tested.Fault o = isLogical o
-decidesBy tested.True o = eqb o or
-decidesBy tested.False o = eqb o and
+abbrev pub decidesBy : Truth → ℕ → Bool
+decidesBy truth-of.Fault o = isLogical o
+decidesBy truth-of.True o = eqb o or
+decidesBy truth-of.False o = eqb o and
 
 -- ---- where the arguments of a call stand
 

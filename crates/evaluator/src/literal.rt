@@ -1,6 +1,6 @@
 // The values of literals, which are read from the style's text.
 ghost use mathlib.Core.Path.{_≡_};
-ghost use Prim.Native.Nat.{_+_, _<_};
+ghost use Prim.Native.Nat.{_+_, _<_, min};
 ghost use Rattle.lexer.specs.Token.{lexemeAt};
 ghost use Rattle.evaluator.specs.Literal.{tokenNumber, tokenSpan, numberIn, spanIn, literalAt};
 use lexer::token::Lexeme;
@@ -84,8 +84,29 @@ pub fn literal_at(style: &[u8], at: usize, form: usize) -> Value
         2 => Value::Boolean(true),
         3 => Value::Boolean(false),
         4 => Value::Null,
+        5 => Value::Undefined,
         6 => Value::Number(0.0 / 0.0),
         7 => Value::Number(1.0 / 0.0),
         _ => Value::Undefined,
     }
+}
+
+// The place in a text of some length of what stands at `at` from `base` on; its end, if it is past that.
+fn place(length: usize, base: usize, at: usize) -> usize
+    ensures { λ r. ⌜ r ≡ min (base + at) length ⌝ }
+{
+    if length <= base {
+        return length;
+    }
+    if length - base <= at {
+        return length;
+    }
+    base + at
+}
+
+// The literal at a place of an expression that begins at `base`.
+pub(crate) fn literal(style: &[u8], base: usize, at: usize, form: usize) -> Value
+    ensures { λ r. ⌜ r ≡ literalAt (now (style .entry)) (base + at) form ⌝ }
+{
+    literal_at(style, place(style.len(), base, at), form)
 }

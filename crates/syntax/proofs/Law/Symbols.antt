@@ -30,14 +30,14 @@ use Rattle.syntax.specs.declared.parse.Picking.the-variants as pick
 
 -- ---- the number of each form of token
 
-digits-below : (n k : ℕ) → numberOf (Number n k) < 27
+pub digits-below : (n k : ℕ) → numberOf (Number n k) < 27
 digits-below n k =
     by-test (λ (m : ℕ). m < 27) (eqb k 0 && ltb n 4) (λ e. omega (arith, ltb-true n 4 (and-eq-true-iff (eqb k 0) (ltb n 4) .0 e .1))) (λ e. omega arith)
 
-word-below : (k : ℕ) → numberOf (Word k) < 35
+pub word-below : (k : ℕ) → numberOf (Word k) < 35
 word-below k = by-test (λ (m : ℕ). m < 35) (ltb k 6) (λ e. omega (arith, ltb-true k 6 e)) (λ e. omega arith)
 
-punctuator-apart : (k : ℕ) → (numberOf (Punctuator k) < 38) × (numberOf (Punctuator k) ≡ 35 → ⊥) × (numberOf (Punctuator k) ≡ 36 → ⊥)
+pub punctuator-apart : (k : ℕ) → (numberOf (Punctuator k) < 38) × (numberOf (Punctuator k) ≡ 35 → ⊥) × (numberOf (Punctuator k) ≡ 36 → ⊥)
 punctuator-apart k =
     by-test (λ (m : ℕ). (m < 38) × (m ≡ 35 → ⊥) × (m ≡ 36 → ⊥)) (ltb k 22) (λ e. (let h = ltb-true k 22 e in (omega arith, λ q. omega arith, λ q. omega arith))) (λ e. (omega arith, λ q. omega arith, λ q. omega arith))
 

@@ -1,0 +1,34 @@
+-- `has_name` compares the whole name with the row's.
+use borrow.Author.Needs.{needs}
+use Rattle.checker.proofs.Law.Names.{whole-name}
+use Rattle.checker.proofs.name.has_name.Statement.{statement}
+use Rattle.checker.proofs.name.has_name.Tie as tie
+
+mul-same-part : tie.Need-mul-same-part
+mul-same-part c = search needs
+
+element-copy-out-same-part : tie.Need-element-copy-out-same-part
+element-copy-out-same-part c = search needs
+
+mul-same-part-2 : tie.Need-mul-same-part-2
+mul-same-part-2 c = search needs
+
+element-copy-out-same-part-2 : tie.Need-element-copy-out-same-part-2
+element-copy-out-same-part-2 c = search needs
+
+same-part-requires : tie.Need-same-part-requires
+same-part-requires c κs = search needs
+
+returns : tie.Need-returns
+returns c = whole-name _ (c .before .before .before .before .before .args .name .now) _ (c .same-part .ensures)
+
+pub has-name-spec : {M : Type 1} → statement M
+has-name-spec =
+    tie.close
+    (tie.spec
+    mul-same-part
+    element-copy-out-same-part
+    mul-same-part-2
+    element-copy-out-same-part-2
+    same-part-requires
+    returns)

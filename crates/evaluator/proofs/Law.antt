@@ -1,0 +1,5 @@
+pub mod Sets
+pub mod Variables
+pub mod Texts
+pub mod Outcomes
+pub mod Trees

@@ -1,0 +1,8 @@
+-- The third demand: an accepted expression meets no fault, and a plain one is refused exactly if some values make it fail
+pub mod Sound
+pub mod Complete
+-- Theorems about the definitions: the kinds of literals, names that are resolved
+pub mod Literals
+pub mod Named
+-- What the functions' proofs lean on
+pub mod Law

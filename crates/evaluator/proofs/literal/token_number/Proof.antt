@@ -1,0 +1,58 @@
+-- `token_number` is the definition, arm by arm.
+use borrow.Author.Needs.{needs}
+use lib.Ieee.{ofBits}
+use Rattle.evaluator.proofs.literal.token_number.Statement.{statement}
+use Rattle.evaluator.proofs.literal.token_number.Tie as tie
+
+enum-known-token : tie.Need-enum-known-token
+enum-known-token c = search needs
+
+value-requires : tie.Need-value-requires
+value-requires c κs = search needs
+
+enum-told : tie.Need-enum-told
+enum-told c = search needs
+
+enum-told-2 : tie.Need-enum-told-2
+enum-told-2 c = search needs
+
+enum-told-3 : tie.Need-enum-told-3
+enum-told-3 c = search needs
+
+enum-told-4 : tie.Need-enum-told-4
+enum-told-4 c = search needs
+
+returns : tie.Need-returns
+returns c = rw (c .before .before .token .given .1) (c .value .ensures)
+
+returns-2 : tie.Need-returns-2
+unfolding ofBits
+returns-2 c = rw (c .enum-told .given .1)
+
+returns-3 : tie.Need-returns-3
+unfolding ofBits
+returns-3 c = rw (c .enum-told2 .given .1)
+
+returns-4 : tie.Need-returns-4
+unfolding ofBits
+returns-4 c = rw (c .enum-told3 .given .1)
+
+returns-5 : tie.Need-returns-5
+unfolding ofBits
+returns-5 c = rw (c .enum-told4 .given .1)
+
+pub token-number-spec : {M : Type 1} → statement M
+token-number-spec =
+    tie.close
+    (tie.spec
+    enum-known-token
+    value-requires
+    enum-told
+    enum-told-2
+    enum-told-3
+    enum-told-4
+    returns
+    returns-2
+    returns-3
+    returns-4
+    returns-5)
