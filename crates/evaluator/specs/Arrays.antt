@@ -3,16 +3,27 @@ use mathlib.Core.List.{List}
 use Prim.Native.Nat.{ℕ, _+_}
 use lib.Ieee.{Float}
 use Rattle.value.specs.Value.{textIn}
+use Rattle.value.specs.declared.apply.Outcome.{Outcome}
 use Rattle.value.specs.declared.apply.Outcome.the-variants.{Worked}
+use Rattle.tree.specs.Node.{treeAt, argumentsAt, mostCommas}
 use Rattle.evaluator.specs.Literal.{literalAt}
 use Rattle.evaluator.specs.Values.{valueAt}
-use Rattle.evaluator.specs.Eval.{Context}
+use Rattle.evaluator.specs.Eval.{Context, evalOf, evalOfAll}
 
 -- The expression lies in the style's text from a base on; strings lie in that text or in the feature's; a variable has the value that the arrays have for its number.
-abbrev pub arrayContext : List ℕ → List ℕ → List ℕ → List Float → List ℕ → ℕ → Context
-arrayContext style feature kinds numbers places base =
+abbrev pub arrayContext : List ℕ → List ℕ → List ℕ → List Float → ℕ → Context
+arrayContext style feature rows floats base =
     record {
       text = textIn style feature;
       literals = λ p k. literalAt style (base + p) k;
-      variables = λ p n. Worked (valueAt kinds numbers places n);
+      variables = λ p n. Worked (valueAt rows floats n);
     }
+
+-- what the tree at a place of the slots comes to, as deep as an allowance goes
+abbrev pub evalAt : List ℕ → List ℕ → List ℕ → List ℕ → List Float → ℕ → ℕ → ℕ → Outcome
+evalAt style feature slots rows floats base at allowance = evalOf (arrayContext style feature rows floats base) (treeAt allowance slots at)
+
+-- and the arguments of a call there
+abbrev pub evalAllAt : List ℕ → List ℕ → List ℕ → List ℕ → List Float → ℕ → ℕ → ℕ → List Outcome
+evalAllAt style feature slots rows floats base at allowance =
+    evalOfAll (arrayContext style feature rows floats base) (argumentsAt (treeAt allowance slots) mostCommas slots at)

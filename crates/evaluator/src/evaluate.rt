@@ -4,9 +4,8 @@
 ghost use mathlib.Core.Path.{_≡_};
 ghost use Rattle.value.specs.Value.{textIn};
 ghost use Rattle.value.specs.Name.{functionAt};
-ghost use Rattle.tree.specs.Node.{treeAt, argumentsAt, mostCommas};
-ghost use Rattle.evaluator.specs.Eval.{applied, binaryOf, branchOf, evalOf, evalOfAll};
-ghost use Rattle.evaluator.specs.Arrays.{arrayContext};
+ghost use Rattle.evaluator.specs.Eval.{applied, binaryOf, branchOf};
+ghost use Rattle.evaluator.specs.Arrays.{evalAt, evalAllAt};
 use crate::arguments::Places;
 use crate::arguments::places_at;
 use crate::literal::literal;
@@ -35,139 +34,38 @@ fn call(
     style: &[u8],
     feature: &[u8],
     slots: &[u16],
-    kinds: &[u8; 48],
-    numbers: &[f64; 192],
-    places: &[usize; 96],
+    rows: &[usize; 144],
+    floats: &[f64; 192],
     base: usize,
     function: usize,
     at: usize,
-    allowance: usize,
+    rest: usize,
 ) -> Outcome
-    ensures { λ r. ⌜ r ≡ applied (textIn (now (style .entry)) (now (feature .entry))) (functionAt function) (evalOfAll (arrayContext (now (style .entry)) (now (feature .entry)) (now (kinds .entry)) (now (numbers .entry)) (now (places .entry)) base) (argumentsAt (treeAt allowance (now (slots .entry))) mostCommas (now (slots .entry)) at)) ⌝ }
+    ensures { λ r. ⌜ r ≡ applied (textIn (now (style .entry)) (now (feature .entry))) (functionAt function) (evalAllAt (now (style .entry)) (now (feature .entry)) (now (slots .entry)) (now (rows .entry)) (now (floats .entry)) base at rest) ⌝ }
 {
     let found = function_at(function);
     match places_at(slots, at, MOST_COMMAS, Places::None) {
         Places::None => applied0(style, feature, found),
         Places::One(p) => {
-            let a = evaluate(
-                style,
-                feature,
-                slots,
-                kinds,
-                numbers,
-                places,
-                base,
-                p,
-                allowance,
-            );
+            let a = evaluate(style, feature, slots, rows, floats, base, p, rest);
             applied1(style, feature, found, a)
         }
         Places::Two(p, q) => {
-            let a = evaluate(
-                style,
-                feature,
-                slots,
-                kinds,
-                numbers,
-                places,
-                base,
-                p,
-                allowance,
-            );
-            let b = evaluate(
-                style,
-                feature,
-                slots,
-                kinds,
-                numbers,
-                places,
-                base,
-                q,
-                allowance,
-            );
+            let a = evaluate(style, feature, slots, rows, floats, base, p, rest);
+            let b = evaluate(style, feature, slots, rows, floats, base, q, rest);
             applied2(style, feature, found, a, b)
         }
         Places::Three(p, q, s) => {
-            let a = evaluate(
-                style,
-                feature,
-                slots,
-                kinds,
-                numbers,
-                places,
-                base,
-                p,
-                allowance,
-            );
-            let b = evaluate(
-                style,
-                feature,
-                slots,
-                kinds,
-                numbers,
-                places,
-                base,
-                q,
-                allowance,
-            );
-            let c = evaluate(
-                style,
-                feature,
-                slots,
-                kinds,
-                numbers,
-                places,
-                base,
-                s,
-                allowance,
-            );
+            let a = evaluate(style, feature, slots, rows, floats, base, p, rest);
+            let b = evaluate(style, feature, slots, rows, floats, base, q, rest);
+            let c = evaluate(style, feature, slots, rows, floats, base, s, rest);
             applied3(style, feature, found, a, b, c)
         }
         Places::Four(p, q, s, t) => {
-            let a = evaluate(
-                style,
-                feature,
-                slots,
-                kinds,
-                numbers,
-                places,
-                base,
-                p,
-                allowance,
-            );
-            let b = evaluate(
-                style,
-                feature,
-                slots,
-                kinds,
-                numbers,
-                places,
-                base,
-                q,
-                allowance,
-            );
-            let c = evaluate(
-                style,
-                feature,
-                slots,
-                kinds,
-                numbers,
-                places,
-                base,
-                s,
-                allowance,
-            );
-            let d = evaluate(
-                style,
-                feature,
-                slots,
-                kinds,
-                numbers,
-                places,
-                base,
-                t,
-                allowance,
-            );
+            let a = evaluate(style, feature, slots, rows, floats, base, p, rest);
+            let b = evaluate(style, feature, slots, rows, floats, base, q, rest);
+            let c = evaluate(style, feature, slots, rows, floats, base, s, rest);
+            let d = evaluate(style, feature, slots, rows, floats, base, t, rest);
             applied4(style, feature, found, a, b, c, d)
         }
         Places::More => Outcome::Fault,
@@ -179,42 +77,21 @@ fn binary(
     style: &[u8],
     feature: &[u8],
     slots: &[u16],
-    kinds: &[u8; 48],
-    numbers: &[f64; 192],
-    places: &[usize; 96],
+    rows: &[usize; 144],
+    floats: &[f64; 192],
     base: usize,
     operator: usize,
     left: usize,
     right: usize,
-    allowance: usize,
+    rest: usize,
 ) -> Outcome
-    ensures { λ r. ⌜ r ≡ binaryOf (textIn (now (style .entry)) (now (feature .entry))) operator (evalOf (arrayContext (now (style .entry)) (now (feature .entry)) (now (kinds .entry)) (now (numbers .entry)) (now (places .entry)) base) (treeAt allowance (now (slots .entry)) left)) (evalOf (arrayContext (now (style .entry)) (now (feature .entry)) (now (kinds .entry)) (now (numbers .entry)) (now (places .entry)) base) (treeAt allowance (now (slots .entry)) right)) ⌝ }
+    ensures { λ r. ⌜ r ≡ binaryOf (textIn (now (style .entry)) (now (feature .entry))) operator (evalAt (now (style .entry)) (now (feature .entry)) (now (slots .entry)) (now (rows .entry)) (now (floats .entry)) base left rest) (evalAt (now (style .entry)) (now (feature .entry)) (now (slots .entry)) (now (rows .entry)) (now (floats .entry)) base right rest) ⌝ }
 {
-    let a = evaluate(
-        style,
-        feature,
-        slots,
-        kinds,
-        numbers,
-        places,
-        base,
-        left,
-        allowance,
-    );
+    let a = evaluate(style, feature, slots, rows, floats, base, left, rest);
     if decides(operator, a) {
         return boolean(a);
     }
-    let b = evaluate(
-        style,
-        feature,
-        slots,
-        kinds,
-        numbers,
-        places,
-        base,
-        right,
-        allowance,
-    );
+    let b = evaluate(style, feature, slots, rows, floats, base, right, rest);
     if is_logical(operator) {
         return boolean(b);
     }
@@ -226,52 +103,21 @@ fn conditional(
     style: &[u8],
     feature: &[u8],
     slots: &[u16],
-    kinds: &[u8; 48],
-    numbers: &[f64; 192],
-    places: &[usize; 96],
+    rows: &[usize; 144],
+    floats: &[f64; 192],
     base: usize,
     test: usize,
     first: usize,
     second: usize,
-    allowance: usize,
+    rest: usize,
 ) -> Outcome
-    ensures { λ r. ⌜ r ≡ branchOf (evalOf (arrayContext (now (style .entry)) (now (feature .entry)) (now (kinds .entry)) (now (numbers .entry)) (now (places .entry)) base) (treeAt allowance (now (slots .entry)) test)) (evalOf (arrayContext (now (style .entry)) (now (feature .entry)) (now (kinds .entry)) (now (numbers .entry)) (now (places .entry)) base) (treeAt allowance (now (slots .entry)) first)) (evalOf (arrayContext (now (style .entry)) (now (feature .entry)) (now (kinds .entry)) (now (numbers .entry)) (now (places .entry)) base) (treeAt allowance (now (slots .entry)) second)) ⌝ }
+    ensures { λ r. ⌜ r ≡ branchOf (evalAt (now (style .entry)) (now (feature .entry)) (now (slots .entry)) (now (rows .entry)) (now (floats .entry)) base test rest) (evalAt (now (style .entry)) (now (feature .entry)) (now (slots .entry)) (now (rows .entry)) (now (floats .entry)) base first rest) (evalAt (now (style .entry)) (now (feature .entry)) (now (slots .entry)) (now (rows .entry)) (now (floats .entry)) base second rest) ⌝ }
 {
-    let t = evaluate(
-        style,
-        feature,
-        slots,
-        kinds,
-        numbers,
-        places,
-        base,
-        test,
-        allowance,
-    );
+    let t = evaluate(style, feature, slots, rows, floats, base, test, rest);
     match tested(t) {
         Truth::Fault => Outcome::Fault,
-        Truth::True => evaluate(
-            style,
-            feature,
-            slots,
-            kinds,
-            numbers,
-            places,
-            base,
-            first,
-            allowance,
-        ),
-        Truth::False => evaluate(
-            style,
-            feature,
-            slots,
-            kinds,
-            numbers,
-            places,
-            base,
-            second,
-            allowance,
-        ),
+        Truth::True => evaluate(style, feature, slots, rows, floats, base, first, rest),
+        Truth::False => evaluate(style, feature, slots, rows, floats, base, second, rest),
     }
 }
 
@@ -280,14 +126,13 @@ pub fn evaluate(
     style: &[u8],
     feature: &[u8],
     slots: &[u16],
-    kinds: &[u8; 48],
-    numbers: &[f64; 192],
-    places: &[usize; 96],
+    rows: &[usize; 144],
+    floats: &[f64; 192],
     base: usize,
     at: usize,
     allowance: usize,
 ) -> Outcome
-    ensures { λ r. ⌜ r ≡ evalOf (arrayContext (now (style .entry)) (now (feature .entry)) (now (kinds .entry)) (now (numbers .entry)) (now (places .entry)) base) (treeAt allowance (now (slots .entry)) at) ⌝ }
+    ensures { λ r. ⌜ r ≡ evalAt (now (style .entry)) (now (feature .entry)) (now (slots .entry)) (now (rows .entry)) (now (floats .entry)) base at allowance ⌝ }
 {
     if allowance == 0 {
         return Outcome::Worked(literal(style, base, at, 0));
@@ -295,84 +140,29 @@ pub fn evaluate(
     let rest = allowance - 1;
     match node_at(slots, at) {
         Node::Literal(form) => Outcome::Worked(literal(style, base, at, form)),
-        Node::Variable(number) => Outcome::Worked(value_at(kinds, numbers, places, number)),
+        Node::Variable(number) => Outcome::Worked(value_at(rows, floats, number)),
         Node::Unary { operator, part } => {
-            let a = evaluate(
-                style,
-                feature,
-                slots,
-                kinds,
-                numbers,
-                places,
-                base,
-                part,
-                rest,
-            );
+            let a = evaluate(style, feature, slots, rows, floats, base, part, rest);
             applied1(style, feature, prefix_at(operator), a)
         }
         Node::Binary {
-            operator,
-            left,
-            right,
-        } => binary(
-            style,
-            feature,
-            slots,
-            kinds,
-            numbers,
-            places,
-            base,
-            operator,
-            left,
-            right,
-            rest,
-        ),
+            operator: o,
+            left: l,
+            right: r,
+        } => binary(style, feature, slots, rows, floats, base, o, l, r, rest),
         Node::Conditional {
             colon: _,
-            test,
-            first,
-            second,
-        } => conditional(
-            style,
-            feature,
-            slots,
-            kinds,
-            numbers,
-            places,
-            base,
-            test,
-            first,
-            second,
-            rest,
-        ),
+            test: t,
+            first: a,
+            second: b,
+        } => conditional(style, feature, slots, rows, floats, base, t, a, b, rest),
         Node::Bare { function } => applied0(style, feature, function_at(function)),
         Node::Call {
-            function,
-            arguments,
-        } => call(
-            style,
-            feature,
-            slots,
-            kinds,
-            numbers,
-            places,
-            base,
-            function,
-            arguments,
-            rest,
-        ),
+            function: f,
+            arguments: xs,
+        } => call(style, feature, slots, rows, floats, base, f, xs, rest),
         Node::Pick { index, part } => {
-            let a = evaluate(
-                style,
-                feature,
-                slots,
-                kinds,
-                numbers,
-                places,
-                base,
-                part,
-                rest,
-            );
+            let a = evaluate(style, feature, slots, rows, floats, base, part, rest);
             applied1(style, feature, pick_at(index), a)
         }
     }

@@ -47,41 +47,41 @@ use Rattle.evaluator.proofs.Law.Trees.{eval-step, call-step}
 
 -- An evaluation goes down a level of the allowance by way of one of the others.
 
-abbrev μ-binary : Measures 6 binary-kinds.ps ℕ
-μ-binary κs a = a .1 .1 .1 .1 .1 .1 .1 .1 .1 .1 .0 * 2 + 1
+abbrev μ-binary : Measures 5 binary-kinds.ps ℕ
+μ-binary κs a = a .1 .1 .1 .1 .1 .1 .1 .1 .1 .0 * 2 + 1
 
-abbrev μ-call : Measures 6 call-kinds.ps ℕ
-μ-call κs a = a .1 .1 .1 .1 .1 .1 .1 .1 .1 .0 * 2 + 1
+abbrev μ-call : Measures 5 call-kinds.ps ℕ
+μ-call κs a = a .1 .1 .1 .1 .1 .1 .1 .1 .0 * 2 + 1
 
-abbrev μ-conditional : Measures 6 conditional-kinds.ps ℕ
-μ-conditional κs a = a .1 .1 .1 .1 .1 .1 .1 .1 .1 .1 .0 * 2 + 1
+abbrev μ-conditional : Measures 5 conditional-kinds.ps ℕ
+μ-conditional κs a = a .1 .1 .1 .1 .1 .1 .1 .1 .1 .0 * 2 + 1
 
-abbrev μ-evaluate : Measures 6 evaluate-kinds.ps ℕ
-μ-evaluate κs a = a .1 .1 .1 .1 .1 .1 .1 .1 .0 * 2
+abbrev μ-evaluate : Measures 5 evaluate-kinds.ps ℕ
+μ-evaluate κs a = a .1 .1 .1 .1 .1 .1 .1 .0 * 2
 
-abbrev binary-at : ℕ → In 6 binary-kinds.ps
-binary-at t = and 6 binary-kinds.ps (is 6 binary-kinds.ps μ-binary t) binary.Pre
+abbrev binary-at : ℕ → In 5 binary-kinds.ps
+binary-at t = and 5 binary-kinds.ps (is 5 binary-kinds.ps μ-binary t) binary.Pre
 
-abbrev binary-below : ℕ → In 6 binary-kinds.ps
-binary-below t = and 6 binary-kinds.ps (falls 6 binary-kinds.ps _<_ μ-binary t) binary.Pre
+abbrev binary-below : ℕ → In 5 binary-kinds.ps
+binary-below t = and 5 binary-kinds.ps (falls 5 binary-kinds.ps _<_ μ-binary t) binary.Pre
 
-abbrev call-at : ℕ → In 6 call-kinds.ps
-call-at t = and 6 call-kinds.ps (is 6 call-kinds.ps μ-call t) call.Pre
+abbrev call-at : ℕ → In 5 call-kinds.ps
+call-at t = and 5 call-kinds.ps (is 5 call-kinds.ps μ-call t) call.Pre
 
-abbrev call-below : ℕ → In 6 call-kinds.ps
-call-below t = and 6 call-kinds.ps (falls 6 call-kinds.ps _<_ μ-call t) call.Pre
+abbrev call-below : ℕ → In 5 call-kinds.ps
+call-below t = and 5 call-kinds.ps (falls 5 call-kinds.ps _<_ μ-call t) call.Pre
 
-abbrev conditional-at : ℕ → In 6 conditional-kinds.ps
-conditional-at t = and 6 conditional-kinds.ps (is 6 conditional-kinds.ps μ-conditional t) conditional.Pre
+abbrev conditional-at : ℕ → In 5 conditional-kinds.ps
+conditional-at t = and 5 conditional-kinds.ps (is 5 conditional-kinds.ps μ-conditional t) conditional.Pre
 
-abbrev conditional-below : ℕ → In 6 conditional-kinds.ps
-conditional-below t = and 6 conditional-kinds.ps (falls 6 conditional-kinds.ps _<_ μ-conditional t) conditional.Pre
+abbrev conditional-below : ℕ → In 5 conditional-kinds.ps
+conditional-below t = and 5 conditional-kinds.ps (falls 5 conditional-kinds.ps _<_ μ-conditional t) conditional.Pre
 
-abbrev evaluate-at : ℕ → In 6 evaluate-kinds.ps
-evaluate-at t = and 6 evaluate-kinds.ps (is 6 evaluate-kinds.ps μ-evaluate t) evaluate.Pre
+abbrev evaluate-at : ℕ → In 5 evaluate-kinds.ps
+evaluate-at t = and 5 evaluate-kinds.ps (is 5 evaluate-kinds.ps μ-evaluate t) evaluate.Pre
 
-abbrev evaluate-below : ℕ → In 6 evaluate-kinds.ps
-evaluate-below t = and 6 evaluate-kinds.ps (falls 6 evaluate-kinds.ps _<_ μ-evaluate t) evaluate.Pre
+abbrev evaluate-below : ℕ → In 5 evaluate-kinds.ps
+evaluate-below t = and 5 evaluate-kinds.ps (falls 5 evaluate-kinds.ps _<_ μ-evaluate t) evaluate.Pre
 
 abbrev binary-uses : ℕ → binary-lts.Claims
 binary-uses t = (evaluate-below t, evaluate.Post, decides-reads.Asked, decides-reads.Learnt, boolean-reads.Asked, boolean-reads.Learnt, is-logical-reads.Asked, is-logical-reads.Learnt, infix-at-reads.Asked, infix-at-reads.Learnt, applied2-reads.Asked, applied2-reads.Learnt)
@@ -116,8 +116,8 @@ binary-returns t c =
     let c4 = c3 .before .before .before .before in
     let start′ = c4 in
     let s = start′ .args in
-    let c = arrayContext (s .style .now) (s .feature .now) (s .kinds .now) (s .numbers .now) (s .places .now) (s .base) in
-    let r = evalOf c (treeAt (s .allowance) (s .slots .now) (s .right)) in
+    let c = arrayContext (s .style .now) (s .feature .now) (s .rows .now) (s .floats .now) (s .base) in
+    let r = evalOf c (treeAt (s .rest) (s .slots .now) (s .right)) in
     rw (boolean′ .ensures, ← evaluate′ .ensures) (decided (c .text) (s .operator) (evaluate′ .result) r (sym (decides′ .ensures) ∙ if1′ .taken))
 
 binary-evaluate-requires-2 : (t : ℕ) → binary-lts.Need-evaluate-requires-2 (binary-uses t) (binary-at t) binary.Post
@@ -147,7 +147,7 @@ binary-returns-2 t c =
     let c7 = c6 .before .before .before .before in
     let start′ = c7 in
     let s = start′ .args in
-    let c = arrayContext (s .style .now) (s .feature .now) (s .kinds .now) (s .numbers .now) (s .places .now) (s .base) in
+    let c = arrayContext (s .style .now) (s .feature .now) (s .rows .now) (s .floats .now) (s .base) in
     rw (boolean2′ .ensures, ← evaluate′ .ensures, ← evaluate2′ .ensures) (undecided (c .text) (s .operator) (evaluate′ .result) (evaluate2′ .result) (sym (decides′ .ensures) ∙ if1′ .left) (sym (is-logical′ .ensures) ∙ if2′ .taken))
 
 binary-infix-at-requires : (t : ℕ) → binary-lts.Need-infix-at-requires (binary-uses t) (binary-at t) binary.Post
@@ -172,7 +172,7 @@ binary-returns-3 t c =
     let c6 = c5 .before .before .before .before in
     let start′ = c6 in
     let s = start′ .args in
-    let c = arrayContext (s .style .now) (s .feature .now) (s .kinds .now) (s .numbers .now) (s .places .now) (s .base) in
+    let c = arrayContext (s .style .now) (s .feature .now) (s .rows .now) (s .floats .now) (s .base) in
     rw (applied2′ .ensures, infix-at′ .ensures, ← evaluate′ .ensures, ← evaluate2′ .ensures) (otherwise (c .text) (s .operator) (evaluate′ .result) (evaluate2′ .result) (sym (is-logical′ .ensures) ∙ if2′ .left))
 
 call-function-at-requires : (t : ℕ) → call-lts.Need-function-at-requires (call-uses t) (call-at t) call.Post
@@ -256,8 +256,8 @@ call-returns t c =
     let c4 = c3 .before .before .before .before in
     let start′ = c4 in
     let s = start′ .args in
-    let c = arrayContext (s .style .now) (s .feature .now) (s .kinds .now) (s .numbers .now) (s .places .now) (s .base) in
-    applied0′ .ensures ∙ (λ i. applied (c .text) (function-at′ .ensures i) ([])) ∙ sym (call-step c (c .text) (functionAt (s .function)) (treeAt (s .allowance) (s .slots .now)) mostCommas (s .slots .now) (s .at) _ (sym (enum-told′ .given .1) ∙ places-at′ .ensures))
+    let c = arrayContext (s .style .now) (s .feature .now) (s .rows .now) (s .floats .now) (s .base) in
+    applied0′ .ensures ∙ (λ i. applied (c .text) (function-at′ .ensures i) ([])) ∙ sym (call-step c (c .text) (functionAt (s .function)) (treeAt (s .rest) (s .slots .now)) mostCommas (s .slots .now) (s .at) _ (sym (enum-told′ .given .1) ∙ places-at′ .ensures))
 
 call-returns-2 : (t : ℕ) → call-lts.Need-returns-2 (call-uses t) (call-at t) call.Post
 call-returns-2 t c =
@@ -273,8 +273,8 @@ call-returns-2 t c =
     let c5 = c4 .before .before .before .before in
     let start′ = c5 in
     let s = start′ .args in
-    let c = arrayContext (s .style .now) (s .feature .now) (s .kinds .now) (s .numbers .now) (s .places .now) (s .base) in
-    applied1′ .ensures ∙ (λ i. applied (c .text) (function-at′ .ensures i) (evaluate′ .ensures i ∷ [])) ∙ sym (call-step c (c .text) (functionAt (s .function)) (treeAt (s .allowance) (s .slots .now)) mostCommas (s .slots .now) (s .at) _ (sym (p′ .given .1) ∙ places-at′ .ensures))
+    let c = arrayContext (s .style .now) (s .feature .now) (s .rows .now) (s .floats .now) (s .base) in
+    applied1′ .ensures ∙ (λ i. applied (c .text) (function-at′ .ensures i) (evaluate′ .ensures i ∷ [])) ∙ sym (call-step c (c .text) (functionAt (s .function)) (treeAt (s .rest) (s .slots .now)) mostCommas (s .slots .now) (s .at) _ (sym (p′ .given .1) ∙ places-at′ .ensures))
 
 call-returns-3 : (t : ℕ) → call-lts.Need-returns-3 (call-uses t) (call-at t) call.Post
 call-returns-3 t c =
@@ -292,8 +292,8 @@ call-returns-3 t c =
     let c6 = c5 .before .before .before .before in
     let start′ = c6 in
     let s = start′ .args in
-    let c = arrayContext (s .style .now) (s .feature .now) (s .kinds .now) (s .numbers .now) (s .places .now) (s .base) in
-    applied2′ .ensures ∙ (λ i. applied (c .text) (function-at′ .ensures i) (evaluate2′ .ensures i ∷ evaluate3′ .ensures i ∷ [])) ∙ sym (call-step c (c .text) (functionAt (s .function)) (treeAt (s .allowance) (s .slots .now)) mostCommas (s .slots .now) (s .at) _ (sym (p2′ .given .1) ∙ places-at′ .ensures))
+    let c = arrayContext (s .style .now) (s .feature .now) (s .rows .now) (s .floats .now) (s .base) in
+    applied2′ .ensures ∙ (λ i. applied (c .text) (function-at′ .ensures i) (evaluate2′ .ensures i ∷ evaluate3′ .ensures i ∷ [])) ∙ sym (call-step c (c .text) (functionAt (s .function)) (treeAt (s .rest) (s .slots .now)) mostCommas (s .slots .now) (s .at) _ (sym (p2′ .given .1) ∙ places-at′ .ensures))
 
 call-returns-4 : (t : ℕ) → call-lts.Need-returns-4 (call-uses t) (call-at t) call.Post
 call-returns-4 t c =
@@ -313,8 +313,8 @@ call-returns-4 t c =
     let c7 = c6 .before .before .before .before in
     let start′ = c7 in
     let s = start′ .args in
-    let c = arrayContext (s .style .now) (s .feature .now) (s .kinds .now) (s .numbers .now) (s .places .now) (s .base) in
-    applied3′ .ensures ∙ (λ i. applied (c .text) (function-at′ .ensures i) (evaluate4′ .ensures i ∷ evaluate5′ .ensures i ∷ evaluate6′ .ensures i ∷ [])) ∙ sym (call-step c (c .text) (functionAt (s .function)) (treeAt (s .allowance) (s .slots .now)) mostCommas (s .slots .now) (s .at) _ (sym (p3′ .given .1) ∙ places-at′ .ensures))
+    let c = arrayContext (s .style .now) (s .feature .now) (s .rows .now) (s .floats .now) (s .base) in
+    applied3′ .ensures ∙ (λ i. applied (c .text) (function-at′ .ensures i) (evaluate4′ .ensures i ∷ evaluate5′ .ensures i ∷ evaluate6′ .ensures i ∷ [])) ∙ sym (call-step c (c .text) (functionAt (s .function)) (treeAt (s .rest) (s .slots .now)) mostCommas (s .slots .now) (s .at) _ (sym (p3′ .given .1) ∙ places-at′ .ensures))
 
 call-returns-5 : (t : ℕ) → call-lts.Need-returns-5 (call-uses t) (call-at t) call.Post
 call-returns-5 t c =
@@ -336,8 +336,8 @@ call-returns-5 t c =
     let c8 = c7 .before .before .before .before in
     let start′ = c8 in
     let s = start′ .args in
-    let c = arrayContext (s .style .now) (s .feature .now) (s .kinds .now) (s .numbers .now) (s .places .now) (s .base) in
-    applied4′ .ensures ∙ (λ i. applied (c .text) (function-at′ .ensures i) (evaluate7′ .ensures i ∷ evaluate8′ .ensures i ∷ evaluate9′ .ensures i ∷ evaluate10′ .ensures i ∷ [])) ∙ sym (call-step c (c .text) (functionAt (s .function)) (treeAt (s .allowance) (s .slots .now)) mostCommas (s .slots .now) (s .at) _ (sym (p4′ .given .1) ∙ places-at′ .ensures))
+    let c = arrayContext (s .style .now) (s .feature .now) (s .rows .now) (s .floats .now) (s .base) in
+    applied4′ .ensures ∙ (λ i. applied (c .text) (function-at′ .ensures i) (evaluate7′ .ensures i ∷ evaluate8′ .ensures i ∷ evaluate9′ .ensures i ∷ evaluate10′ .ensures i ∷ [])) ∙ sym (call-step c (c .text) (functionAt (s .function)) (treeAt (s .rest) (s .slots .now)) mostCommas (s .slots .now) (s .at) _ (sym (p4′ .given .1) ∙ places-at′ .ensures))
 
 call-returns-6 : (t : ℕ) → call-lts.Need-returns-6 (call-uses t) (call-at t) call.Post
 call-returns-6 t c =
@@ -347,8 +347,8 @@ call-returns-6 t c =
     let c2 = c1 .before .before .before .before .before in
     let start′ = c2 in
     let s = start′ .args in
-    let c = arrayContext (s .style .now) (s .feature .now) (s .kinds .now) (s .numbers .now) (s .places .now) (s .base) in
-    sym (call-step c (c .text) (functionAt (s .function)) (treeAt (s .allowance) (s .slots .now)) mostCommas (s .slots .now) (s .at) _ (sym (enum-told2′ .given .1) ∙ places-at′ .ensures))
+    let c = arrayContext (s .style .now) (s .feature .now) (s .rows .now) (s .floats .now) (s .base) in
+    sym (call-step c (c .text) (functionAt (s .function)) (treeAt (s .rest) (s .slots .now)) mostCommas (s .slots .now) (s .at) _ (sym (enum-told2′ .given .1) ∙ places-at′ .ensures))
 
 conditional-evaluate-requires : (t : ℕ) → conditional-lts.Need-evaluate-requires (conditional-uses t) (conditional-at t) conditional.Post
 conditional-evaluate-requires t c κs = search needs
@@ -381,8 +381,8 @@ conditional-returns t c =
     let c3 = c2 .before .before .before .before in
     let start′ = c3 in
     let s = start′ .args in
-    let c = arrayContext (s .style .now) (s .feature .now) (s .kinds .now) (s .numbers .now) (s .places .now) (s .base) in
-    let e : ℕ → Outcome = λ q. evalOf c (treeAt (s .allowance) (s .slots .now) q) in
+    let c = arrayContext (s .style .now) (s .feature .now) (s .rows .now) (s .floats .now) (s .base) in
+    let e : ℕ → Outcome = λ q. evalOf c (treeAt (s .rest) (s .slots .now) q) in
     branch-by _ (e (s .test)) (evaluate′ .result) (e (s .first)) (e (s .second)) _ (sym (enum-told′ .given .1) ∙ tested′ .ensures) (evaluate′ .ensures) (refl)
 
 conditional-returns-2 : (t : ℕ) → conditional-lts.Need-returns-2 (conditional-uses t) (conditional-at t) conditional.Post
@@ -397,8 +397,8 @@ conditional-returns-2 t c =
     let c4 = c3 .before .before .before .before in
     let start′ = c4 in
     let s = start′ .args in
-    let c = arrayContext (s .style .now) (s .feature .now) (s .kinds .now) (s .numbers .now) (s .places .now) (s .base) in
-    let e : ℕ → Outcome = λ q. evalOf c (treeAt (s .allowance) (s .slots .now) q) in
+    let c = arrayContext (s .style .now) (s .feature .now) (s .rows .now) (s .floats .now) (s .base) in
+    let e : ℕ → Outcome = λ q. evalOf c (treeAt (s .rest) (s .slots .now) q) in
     branch-by _ (e (s .test)) (evaluate′ .result) (e (s .first)) (e (s .second)) _ (sym (enum-told2′ .given .1) ∙ tested′ .ensures) (evaluate′ .ensures) (evaluate2′ .ensures)
 
 conditional-returns-3 : (t : ℕ) → conditional-lts.Need-returns-3 (conditional-uses t) (conditional-at t) conditional.Post
@@ -413,8 +413,8 @@ conditional-returns-3 t c =
     let c4 = c3 .before .before .before .before in
     let start′ = c4 in
     let s = start′ .args in
-    let c = arrayContext (s .style .now) (s .feature .now) (s .kinds .now) (s .numbers .now) (s .places .now) (s .base) in
-    let e : ℕ → Outcome = λ q. evalOf c (treeAt (s .allowance) (s .slots .now) q) in
+    let c = arrayContext (s .style .now) (s .feature .now) (s .rows .now) (s .floats .now) (s .base) in
+    let e : ℕ → Outcome = λ q. evalOf c (treeAt (s .rest) (s .slots .now) q) in
     branch-by _ (e (s .test)) (evaluate′ .result) (e (s .first)) (e (s .second)) _ (sym (enum-told3′ .given .1) ∙ tested′ .ensures) (evaluate′ .ensures) (evaluate3′ .ensures)
 
 evaluate-literal-requires : (t : ℕ) → evaluate-lts.Need-literal-requires (evaluate-uses t) (evaluate-at t) evaluate.Post
@@ -458,14 +458,14 @@ evaluate-prefix-at-requires t c κs = search needs
 evaluate-applied1-requires : (t : ℕ) → evaluate-lts.Need-applied1-requires (evaluate-uses t) (evaluate-at t) evaluate.Post
 evaluate-applied1-requires t c κs = search needs
 
-evaluate-enum-known-operator-2 : (t : ℕ) → evaluate-lts.Need-enum-known-operator-2 (evaluate-uses t) (evaluate-at t) evaluate.Post
-evaluate-enum-known-operator-2 t c = search needs
+evaluate-enum-known-o : (t : ℕ) → evaluate-lts.Need-enum-known-o (evaluate-uses t) (evaluate-at t) evaluate.Post
+evaluate-enum-known-o t c = search needs
 
 evaluate-binary-requires : (t : ℕ) → evaluate-lts.Need-binary-requires (evaluate-uses t) (evaluate-at t) evaluate.Post
 evaluate-binary-requires t c κs = search needs
 
-evaluate-enum-known-test : (t : ℕ) → evaluate-lts.Need-enum-known-test (evaluate-uses t) (evaluate-at t) evaluate.Post
-evaluate-enum-known-test t c = search needs
+evaluate-enum-known-t : (t : ℕ) → evaluate-lts.Need-enum-known-t (evaluate-uses t) (evaluate-at t) evaluate.Post
+evaluate-enum-known-t t c = search needs
 
 evaluate-conditional-requires : (t : ℕ) → evaluate-lts.Need-conditional-requires (evaluate-uses t) (evaluate-at t) evaluate.Post
 evaluate-conditional-requires t c κs = search needs
@@ -479,8 +479,8 @@ evaluate-function-at-requires t c κs = search needs
 evaluate-applied0-requires : (t : ℕ) → evaluate-lts.Need-applied0-requires (evaluate-uses t) (evaluate-at t) evaluate.Post
 evaluate-applied0-requires t c κs = search needs
 
-evaluate-enum-known-function-2 : (t : ℕ) → evaluate-lts.Need-enum-known-function-2 (evaluate-uses t) (evaluate-at t) evaluate.Post
-evaluate-enum-known-function-2 t c = search needs
+evaluate-enum-known-f : (t : ℕ) → evaluate-lts.Need-enum-known-f (evaluate-uses t) (evaluate-at t) evaluate.Post
+evaluate-enum-known-f t c = search needs
 
 evaluate-call-requires : (t : ℕ) → evaluate-lts.Need-call-requires (evaluate-uses t) (evaluate-at t) evaluate.Post
 evaluate-call-requires t c κs = search needs
@@ -540,23 +540,23 @@ evaluate-returns-5 : (t : ℕ) → evaluate-lts.Need-returns-5 (evaluate-uses t)
 evaluate-returns-5 t c =
     let binary′ = c .binary in
     let c1 = c .before .before in
-    let operator2′ = c1 .operator2 in
+    let o′ = c1 .o in
     let c2 = c1 .before .before in
     let node-at′ = c2 .node-at in
     let c3 = c2 .before in
     let if1′ = c3 .if1 in
-    binary′ .ensures ∙ sym (eval-step _ _ _ _ _ (if1′ .left) (sym (operator2′ .given .1) ∙ node-at′ .ensures))
+    binary′ .ensures ∙ sym (eval-step _ _ _ _ _ (if1′ .left) (sym (o′ .given .1) ∙ node-at′ .ensures))
 
 evaluate-returns-6 : (t : ℕ) → evaluate-lts.Need-returns-6 (evaluate-uses t) (evaluate-at t) evaluate.Post
 evaluate-returns-6 t c =
     let conditional′ = c .conditional in
     let c1 = c .before .before in
-    let test′ = c1 .test in
+    let t′ = c1 .t in
     let c2 = c1 .before .before in
     let node-at′ = c2 .node-at in
     let c3 = c2 .before in
     let if1′ = c3 .if1 in
-    conditional′ .ensures ∙ sym (eval-step _ _ _ _ _ (if1′ .left) (sym (test′ .given .1) ∙ node-at′ .ensures))
+    conditional′ .ensures ∙ sym (eval-step _ _ _ _ _ (if1′ .left) (sym (t′ .given .1) ∙ node-at′ .ensures))
 
 evaluate-returns-7 : (t : ℕ) → evaluate-lts.Need-returns-7 (evaluate-uses t) (evaluate-at t) evaluate.Post
 evaluate-returns-7 t c =
@@ -577,12 +577,12 @@ evaluate-returns-8 : (t : ℕ) → evaluate-lts.Need-returns-8 (evaluate-uses t)
 evaluate-returns-8 t c =
     let call′ = c .call in
     let c1 = c .before .before in
-    let function2′ = c1 .function2 in
+    let f′ = c1 .f in
     let c2 = c1 .before .before in
     let node-at′ = c2 .node-at in
     let c3 = c2 .before in
     let if1′ = c3 .if1 in
-    call′ .ensures ∙ sym (eval-step _ _ _ _ _ (if1′ .left) (sym (function2′ .given .1) ∙ node-at′ .ensures))
+    call′ .ensures ∙ sym (eval-step _ _ _ _ _ (if1′ .left) (sym (f′ .given .1) ∙ node-at′ .ensures))
 
 evaluate-returns-9 : (t : ℕ) → evaluate-lts.Need-returns-9 (evaluate-uses t) (evaluate-at t) evaluate.Post
 evaluate-returns-9 t c =
@@ -607,4 +607,4 @@ pub +binary+call+conditional+evaluate-spec : {M : Type 1} → statement M
     (λ t. binary-lts.spec (binary-uses t) (binary-at t) binary.Post (binary-evaluate-requires t) (binary-decides-requires t) (binary-boolean-requires t) (binary-returns t) (binary-evaluate-requires-2 t) (binary-is-logical-requires t) (binary-boolean-requires-2 t) (binary-returns-2 t) (binary-infix-at-requires t) (binary-applied2-requires t) (binary-returns-3 t))
     (λ t. call-lts.spec (call-uses t) (call-at t) call.Post (call-function-at-requires t) (call-places-at-requires t) (call-enum-told t) (call-applied0-requires t) (call-enum-known-p t) (call-evaluate-requires t) (call-applied1-requires t) (call-enum-known-p-2 t) (call-evaluate-requires-2 t) (call-evaluate-requires-3 t) (call-applied2-requires t) (call-enum-known-p-3 t) (call-evaluate-requires-4 t) (call-evaluate-requires-5 t) (call-evaluate-requires-6 t) (call-applied3-requires t) (call-enum-known-p-4 t) (call-evaluate-requires-7 t) (call-evaluate-requires-8 t) (call-evaluate-requires-9 t) (call-evaluate-requires-10 t) (call-applied4-requires t) (call-enum-told-2 t) (call-returns t) (call-returns-2 t) (call-returns-3 t) (call-returns-4 t) (call-returns-5 t) (call-returns-6 t))
     (λ t. conditional-lts.spec (conditional-uses t) (conditional-at t) conditional.Post (conditional-evaluate-requires t) (conditional-tested-requires t) (conditional-enum-told t) (conditional-enum-told-2 t) (conditional-evaluate-requires-2 t) (conditional-enum-told-3 t) (conditional-evaluate-requires-3 t) (conditional-returns t) (conditional-returns-2 t) (conditional-returns-3 t))
-    (λ t. evaluate-lts.spec (evaluate-uses t) (evaluate-at t) evaluate.Post (evaluate-literal-requires t) (evaluate-returns t) (evaluate-sub-rest t) (evaluate-node-at-requires t) (evaluate-enum-known-form t) (evaluate-literal-requires-2 t) (evaluate-enum-known-number t) (evaluate-value-at-requires t) (evaluate-enum-known-operator t) (evaluate-evaluate-requires t) (evaluate-prefix-at-requires t) (evaluate-applied1-requires t) (evaluate-enum-known-operator-2 t) (evaluate-binary-requires t) (evaluate-enum-known-test t) (evaluate-conditional-requires t) (evaluate-enum-known-function t) (evaluate-function-at-requires t) (evaluate-applied0-requires t) (evaluate-enum-known-function-2 t) (evaluate-call-requires t) (evaluate-enum-known-index t) (evaluate-evaluate-requires-2 t) (evaluate-pick-at-requires t) (evaluate-applied1-requires-2 t) (evaluate-returns-2 t) (evaluate-returns-3 t) (evaluate-returns-4 t) (evaluate-returns-5 t) (evaluate-returns-6 t) (evaluate-returns-7 t) (evaluate-returns-8 t) (evaluate-returns-9 t))
+    (λ t. evaluate-lts.spec (evaluate-uses t) (evaluate-at t) evaluate.Post (evaluate-literal-requires t) (evaluate-returns t) (evaluate-sub-rest t) (evaluate-node-at-requires t) (evaluate-enum-known-form t) (evaluate-literal-requires-2 t) (evaluate-enum-known-number t) (evaluate-value-at-requires t) (evaluate-enum-known-operator t) (evaluate-evaluate-requires t) (evaluate-prefix-at-requires t) (evaluate-applied1-requires t) (evaluate-enum-known-o t) (evaluate-binary-requires t) (evaluate-enum-known-t t) (evaluate-conditional-requires t) (evaluate-enum-known-function t) (evaluate-function-at-requires t) (evaluate-applied0-requires t) (evaluate-enum-known-f t) (evaluate-call-requires t) (evaluate-enum-known-index t) (evaluate-evaluate-requires-2 t) (evaluate-pick-at-requires t) (evaluate-applied1-requires-2 t) (evaluate-returns-2 t) (evaluate-returns-3 t) (evaluate-returns-4 t) (evaluate-returns-5 t) (evaluate-returns-6 t) (evaluate-returns-7 t) (evaluate-returns-8 t) (evaluate-returns-9 t))
