@@ -4,17 +4,17 @@ use mathlib.Core.Bool.{Bool}
 use mathlib.Core.List.{List, _++_}
 use Prim.Native.Nat.{ℕ, suc, _+_, _/_, _%_, _<_, _≤_}
 use native.Mathlib.Omega.{arith}
-use borrow.Author.Tests.{eqb-true, ltb-true, le-ltb}
+use borrow.Author.Tests.{eqb-true, ltb-true}
 use lib.Dec.{ltb}
-use lib.ListN.{length, take, drop, length-take, length-append}
+use lib.ListN.{length}
 use Rattle.lexer.proofs.Law.Runs.{by-test}
 use Rattle.tree.specs.Tree.{Tree, Arguments, place}
 use Rattle.tree.specs.Tree as tree
-use Rattle.tree.specs.Slots.{word, variableTag, functionTag, operatorTag, commaTag, pickTag, Shape, leaf, held, before, between, after, root, shapeOf, shapesOf, store}
+use Rattle.tree.specs.Slots.{word, variableTag, functionTag, operatorTag, commaTag, pickTag, Shape, leaf, held, before, between, after, root, shapeOf, shapesOf}
 use Rattle.tree.specs.Node.{treeAt}
 use Rattle.tree.specs.Fits.{Within, Known, KnownAll}
-use Rattle.tree.proofs.Law.Places.{root-shape, length-lay}
-use Rattle.tree.proofs.Back.{Holds, holds-lay, holds-more, read-back}
+use Rattle.tree.proofs.Law.Places.{root-shape}
+use Rattle.tree.proofs.Back.{Holds, read-back}
 use Rattle.syntax.specs.Symbol.{formOf, indexOf, functionOf, memberOf, precedenceOf}
 use Rattle.syntax.specs.Grammar.{
   Nonterminal,
@@ -47,7 +47,7 @@ use Rattle.syntax.specs.Grammar.{
 }
 use Rattle.syntax.specs.Height.{heightOf, heightOfAll}
 use Rattle.syntax.specs.Judge.{fine, judgedOf, slotsAfter}
-use Rattle.syntax.proofs.Laid.{judged-fits}
+use Rattle.syntax.proofs.Laid.{judged-fits, slots-hold}
 use Rattle.syntax.proofs.Grammar.Judged.{judged-fine}
 use Rattle.syntax.proofs.Law.Heights.{pruned-low}
 use Rattle.syntax.proofs.Law.Levels.{operator-number, prefix-operator}
@@ -211,17 +211,15 @@ pub read-resolved : (number : List ℕ → ℕ) → ((x : List ℕ) → number x
 read-resolved number small text w e h judged room low =
     let n = length text in
     let d = judged-fits text e judged in
-    let own = take n w in
-    let enough : n ≤ length own = rw (length-take n w) (omega arith) in
-    let v = store own e ++ drop n w in
-    let held = holds-more (store own e) (drop n w) 0 n (shapeOf e) (d .2) (omega (arith, length-lay own (shapeOf e))) (holds-lay own 0 n (shapeOf e) (d .2) (d .0) enough) in
+    let v = slotsAfter w text in
+    let kept = slots-hold text w e judged room in
     let (ts, scanned, derived) = judged-fine text e judged in
     let l = tokens-listed number text ts (scanned .lexed) in
     let name : ℕ → ℕ = λ p. number (nameAt text p) in
     let u = numberedAll number text ts v in
     let t : Turned v u (shapeOf e) (shapeOf (resolved name e)) =
-    turned text v u name (λ p. small (nameAt text p)) derived (all-settled number text v ts (l .0) (omega (arith, length-append (store own e) (drop n w), length-lay own (shapeOf e)))) in
+    turned text v u name (λ p. small (nameAt text p)) derived (all-settled number text v ts (l .0) (omega (arith, kept .1))) in
     let same : place (resolved name e) ≡ place e = sym (root-shape (resolved name e)) ∙ t .rooted ∙ root-shape e in
-    let read = read-back u 0 n (resolved name e) h (t .within 0 n (d .2)) (known-resolved name e (d .3)) (d .0) (t .holds 0 n (d .2) held) in
+    let read = read-back u 0 n (resolved name e) h (t .within 0 n (d .2)) (known-resolved name e (d .3)) (d .0) (t .holds 0 n (d .2) (kept .0)) in
     let whole = pruned-low (resolved name e) h (rw (height-resolved name e) low) in
-    rw (le-ltb (length w) n room, judged, l .1 v, ← same) (read ∙ whole)
+    rw (l .1 v, ← same) (read ∙ whole)

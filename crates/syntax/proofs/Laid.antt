@@ -5,7 +5,7 @@ use mathlib.Core.List.{List, _++_}
 use Prim.Native.Nat.{ℕ, zero, suc, _+_, _<_, _≤_}
 use native.Mathlib.Omega.{arith}
 use lib.Dec.{ltb}
-use lib.ListN.{length, take, drop, length-take}
+use lib.ListN.{length, take, drop, length-take, length-drop, length-append}
 use borrow.Author.Tests.{eqb-true, ltb-false, le-ltb}
 use Rattle.lexer.specs.Scan.{scanOf}
 use Rattle.lexer.specs.declared.scan.Verdict.{Verdict}
@@ -15,7 +15,7 @@ use Rattle.tree.specs.Slots.{functionTag, operatorTag, commaTag, Shape, before,
 use Rattle.tree.specs.Node.{treeAt}
 use Rattle.tree.specs.Fits.{Within, Known, KnownAll}
 use Rattle.tree.proofs.Law.Places.{within-le, within-wider, length-lay}
-use Rattle.tree.proofs.Back.{holds-lay, holds-more, read-back}
+use Rattle.tree.proofs.Back.{Holds, holds-lay, holds-more, read-back}
 use Rattle.syntax.specs.Symbol.{question, colon, openRound, closeRound, openSquare, closeSquare, comma, dot, word, end, symbolAt, is, isLiteral, formOf, isIndex, indexOf, isWord, isPrefix, precedenceOf, levels, hasPrecedence, functionOf, memberOf}
 use Rattle.syntax.specs.Symbol as symbol
 use Rattle.syntax.specs.Parser.{
@@ -369,12 +369,20 @@ module _ (text : List ℕ) where
 pub judged-fits : (text : List ℕ) (e : Tree) → judgedOf text ≡ fine e → (length text ≤ 1024) × (heightOf e ≤ 64) × Within 0 (length text) (shapeOf e) × Known e
 judged-fits text e h = subst (IfFine text) h (judged-right text)
 
--- What a call laid into the slots is read back from them as the tree that was judged.
-pub read-judged : (text w : List ℕ) (e : Tree) (h : ℕ) → judgedOf text ≡ fine e → length text ≤ length w → heightOf e ≤ h → treeAt h (slotsAfter w text) (place e) ≡ e
-read-judged text w e h judged room low =
+-- The slots after a call hold the tree that was judged, and are as many as before.
+pub slots-hold : (text w : List ℕ) (e : Tree) → judgedOf text ≡ fine e → length text ≤ length w → Holds (slotsAfter w text) (shapeOf e) × (length (slotsAfter w text) ≡ length w)
+slots-hold text w e judged room =
     let n = length text in
     let d = judged-fits text e judged in
     let own = take n w in
+    let size = length-lay own (shapeOf e) in
     let enough : n ≤ length own = rw (length-take n w) (omega arith) in
-    let held = holds-more (store own e) (drop n w) 0 n (shapeOf e) (d .2) (omega (arith, length-lay own (shapeOf e))) (holds-lay own 0 n (shapeOf e) (d .2) (d .0) enough) in
-    rw (le-ltb (length w) n room, judged) (read-back (store own e ++ drop n w) 0 n e h (d .2) (d .3) (d .0) held ∙ pruned-low e h low)
+    let held = holds-more (store own e) (drop n w) 0 n (shapeOf e) (d .2) (omega arith) (holds-lay own 0 n (shapeOf e) (d .2) (d .0) enough) in
+    let whole : length (store own e ++ drop n w) ≡ length w = omega (arith, length-append (store own e) (drop n w), length-take n w, length-drop n w) in
+    rw (le-ltb (length w) n room, judged) (held, whole)
+
+-- So what a call laid into the slots is read back from them as the tree that was judged.
+pub read-judged : (text w : List ℕ) (e : Tree) (h : ℕ) → judgedOf text ≡ fine e → length text ≤ length w → heightOf e ≤ h → treeAt h (slotsAfter w text) (place e) ≡ e
+read-judged text w e h judged room low =
+    let d = judged-fits text e judged in
+    read-back (slotsAfter w text) 0 (length text) e h (d .2) (d .3) (d .0) (slots-hold text w e judged room .0) ∙ pruned-low e h low
