@@ -6,7 +6,6 @@ use lib.ListN.{length}
 use Rattle.lexer.specs.declared.token.Token.{Token}
 use Rattle.lexer.specs.declared.token.Token.the-variants.{Variable}
 use Rattle.kind.specs.Choice.{setsIn, withOf, nodeKinds}
-use Rattle.kind.specs.declared.set.Kinds.{Kinds}
 use Rattle.kind.specs.declared.choice.Parts.the-variants as parts
 use Rattle.value.specs.declared.name.Found.{Found}
 use Rattle.value.specs.declared.name.Found.the-variants.{Known, Unknown}

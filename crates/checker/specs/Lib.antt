@@ -2,4 +2,5 @@ pub mod Name
 pub mod Property
 pub mod Operator
 pub mod Kinds
+pub mod Check
 pub mod Inner

@@ -34,12 +34,16 @@ nameAt text at = nameIn text at (endOf (lexemeAt text at))
 
 -- ---- the numbers of names
 
--- Names stand in 48 rows: 32 of properties, then 16 of defines. A row is where its name lies in the head; one that is not used is empty.
+-- Names stand in 48 rows: "32 properties", then "16 defines". A row is where its name lies in the head; one that is not used is empty.
 abbrev pub properties : ℕ
 properties = 32
 
-abbrev pub rows : ℕ
-rows = 48
+abbrev pub defines : ℕ
+defines = 16
+
+-- behind the last row
+abbrev pub noRow : ℕ
+noRow = 48
 
 abbrev pub rowAt : List ℕ → List ℕ → List ℕ → ℕ → List ℕ
 rowAt head starts ends i = slice (getD starts i 0) (getD ends i 0) head
@@ -49,16 +53,16 @@ unfoldable pub firstRow : (ℕ → Bool) → ℕ → ℕ → ℕ
 firstRow p zero i = i
 firstRow p (suc n) i = elim (p i) [ true ↦ i | false ↦ firstRow p n (suc i) ]
 
--- a property's row, or 48 for an undeclared name
+-- a property's row, or none for an undeclared name
 unfoldable pub propertyRow : (ℕ → Bool) → ℕ
 unfolding firstRow
-propertyRow p = let i = firstRow p 32 0 in cond (ltb i 32) i 48
+propertyRow p = let i = firstRow p properties 0 in cond (ltb i properties) i noRow
 
 -- "inside a define every name is a property"; elsewhere "a define hides a property of its name"
 unfoldable pub rowIn : Scope → (ℕ → Bool) → ℕ
 unfolding firstRow propertyRow
 rowIn Define p = propertyRow p
-rowIn Style p = let i = firstRow p 16 32 in cond (ltb i 48) i (propertyRow p)
+rowIn Style p = let i = firstRow p defines properties in cond (ltb i noRow) i (propertyRow p)
 
 -- the number of a name is that of its row
 abbrev pub numberOf : Scope → List ℕ → List ℕ → List ℕ → List ℕ → ℕ

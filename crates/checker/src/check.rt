@@ -4,7 +4,8 @@ ghost use mathlib.Core.List.{_∷_, []};
 ghost use Rattle.kind.specs.Set.{singleOf};
 ghost use Rattle.tree.specs.Node.{treeAt, argumentsAt};
 ghost use Rattle.checker.specs.Property.{setAt};
-ghost use Rattle.checker.specs.Kinds.{literalKind, placed, nodeOf, conditionalOf, kindsOf, kindsOfAll, takenBy, resultOf};
+ghost use Rattle.checker.specs.Kinds.{literalKind, placed, nodeOf, conditionalOf, kindsOfAll, takenBy};
+ghost use Rattle.checker.specs.Check.{kindsAt, checkedAt};
 ghost use Rattle.checker.specs.declared.check.Verdict.the-variants.{Accepted};
 ghost use Rattle.checker.specs.Inner.{withOne, withAll, nodeBy};
 use crate::operator::infix_at;
@@ -150,7 +151,7 @@ fn conditional(at: usize, test: Verdict, first: Verdict, second: Verdict) -> Ver
 // The kinds of the tree at a place, as deep as an allowance goes. The bytes of sets are those of the
 // variables' numbers.
 pub fn kinds(slots: &[u16], sets: &[u8; 48], at: usize, allowance: usize) -> Verdict
-    ensures { λ r. ⌜ r ≡ kindsOf (λ p n. setAt (now (sets .entry)) n) (treeAt allowance (now (slots .entry)) at) ⌝ }
+    ensures { λ r. ⌜ r ≡ kindsAt (now (slots .entry)) (now (sets .entry)) at allowance ⌝ }
 {
     if allowance == 0 {
         return Verdict::Accepted(Kinds::NUMBER);
@@ -233,7 +234,7 @@ fn taken(wanted: Wanted) -> Kinds
 // The kinds of the tree at a place, if they are wanted; a wrong result is refused at the end of the
 // expression.
 pub fn check(slots: &[u16], sets: &[u8; 48], root: usize, wanted: Wanted, end: usize) -> Verdict
-    ensures { λ r. ⌜ r ≡ resultOf wanted end (kindsOf (λ p n. setAt (now (sets .entry)) n) (treeAt 64 (now (slots .entry)) root)) ⌝ }
+    ensures { λ r. ⌜ r ≡ checkedAt (now (slots .entry)) (now (sets .entry)) root wanted end ⌝ }
 {
     match kinds(slots, sets, root, MOST_HEIGHT) {
         Verdict::Refused(place) => Verdict::Refused(place),

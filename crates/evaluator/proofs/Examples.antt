@@ -19,7 +19,7 @@ use Rattle.value.specs.Equality.{equalOf}
 use Rattle.value.specs.Meaning as value
 use Rattle.value.specs.Name.{functionAt, memberIndex, pickAt}
 use Rattle.value.specs.declared.apply.Outcome.{Outcome}
-use Rattle.value.specs.declared.apply.Outcome.the-variants.{Fault, Worked}
+use Rattle.value.specs.declared.apply.Outcome.the-variants.{Worked}
 use Rattle.value.specs.declared.value.Value.{Value}
 use Rattle.value.specs.declared.value.Value.the-variants.{Undefined, Boolean, Number, Vec3}
 use Rattle.tree.specs.Tree.{Tree}

@@ -1,5 +1,4 @@
 -- What the theorems about checked expressions speak of: page 01, "Kinds and meaning" and "What each answer owes".
-use mathlib.Core.Path.{_≡_}
 use mathlib.Core.Bool.{Bool, true, false, not, _&&_, _||_}
 use Prim.Native.Nat.{ℕ}
 use lib.Dec.{T, eqb}

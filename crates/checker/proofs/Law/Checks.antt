@@ -2,10 +2,8 @@
 use mathlib.Core.Path.{_≡_, refl, sym, _∙_, ap}
 use mathlib.Core.List.{List, [], _∷_, _++_, append-nil, append-assoc}
 use Prim.Native.Nat.{ℕ, _-_}
-use Rattle.kind.specs.Choice.{setsIn, withOf, partsOf, nodeKinds}
+use Rattle.kind.specs.Choice.{partsOf}
 use Rattle.kind.specs.declared.set.Kinds.{Kinds}
-use Rattle.kind.specs.declared.operation.Operation.{Operation}
-use Rattle.kind.specs.declared.choice.Parts.the-variants as parts
 use Rattle.kind.proofs.AnyCount.{any-count, with-parts}
 use Rattle.value.specs.Name.{functionAt, pickAt}
 use Rattle.value.specs.declared.name.Found.{Found}
@@ -18,7 +16,7 @@ use Rattle.syntax.proofs.Law.Nodes.{tree-step}
 use Rattle.kind.specs.Set.{singleOf}
 use Rattle.checker.specs.Operator.{prefixAt, infixAt}
 use Rattle.checker.specs.Kinds.{Parts, refusedAt, sets, after, gathered, placed, operated, nodeOf, literalKind, conditionalOf, kindsOf, kindsOfAll}
-use Rattle.checker.specs.Inner.{noChecks, withOne, withAll, nodeBy}
+use Rattle.checker.specs.Inner.{noChecks, withAll, nodeBy}
 use Rattle.checker.specs.declared.check.Verdict.{Verdict}
 use Rattle.checker.specs.declared.check.Verdict.the-variants.{Refused, Accepted}
 use Rattle.checker.specs.declared.check.Checks.{Checks}

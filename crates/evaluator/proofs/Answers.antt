@@ -1,0 +1,80 @@
+-- The third demand about what `check` and `evaluate` answer: their promises are `checkedAt` and `evalAt`, over any slots. And what they answer of an expression that was judged and resolved is what its tree's
+-- own names give.
+use mathlib.Core.Path.{_≡_, ap, _∙_}
+use mathlib.Core.List.{List}
+use mathlib.Core.Logic.{_↔_}
+use Prim.Native.Nat.{ℕ, _+_, _<_, _≤_}
+use lib.Dec.{T}
+use lib.Ieee.{Float}
+use lib.ListN.{length}
+use Rattle.kind.specs.Set.{has}
+use Rattle.kind.specs.declared.set.Kinds.{Kinds}
+use Rattle.value.specs.Value.{kindOf, textIn}
+use Rattle.value.specs.declared.apply.Outcome.the-variants.{Worked}
+use Rattle.value.specs.declared.value.Value.{Value}
+use Rattle.tree.specs.Tree.{Tree, place}
+use Rattle.tree.specs.Node.{treeAt}
+use Rattle.syntax.specs.Judge.{fine, judgedOf, slotsAfter}
+use Rattle.syntax.proofs.Laid.{judged-fits}
+use Rattle.checker.specs.Name.{nameAt, resolvedSlots, resolved}
+use Rattle.checker.specs.Property.{Property, propertyKinds, setAt}
+use Rattle.checker.specs.Kinds.{kindsOf, takenBy, resultOf}
+use Rattle.checker.specs.Check.{checkedAt}
+use Rattle.checker.specs.declared.check.Verdict.the-variants.{Accepted}
+use Rattle.checker.specs.declared.check.Wanted.{Wanted}
+use Rattle.checker.proofs.Resolved.{read-resolved}
+use Rattle.evaluator.specs.Literal.{literalAt}
+use Rattle.evaluator.specs.Values.{valueAt}
+use Rattle.evaluator.specs.Eval.{Context, evalOf}
+use Rattle.evaluator.specs.Arrays.{arrayContext, evalAt}
+use Rattle.evaluator.specs.Demand.{Conforms, Allowed, Variables, plain, isRefused, fails}
+use Rattle.evaluator.proofs.Literals.{literal-kind}
+use Rattle.evaluator.proofs.Named.{kinds-resolved, eval-resolved}
+use Rattle.evaluator.proofs.Sound.{accepted-result}
+use Rattle.evaluator.proofs.Complete.{exactly}
+
+-- ---- any slots
+
+module _ (style feature slots sets : List ℕ) (base root : ℕ) (want : Wanted) (end : ℕ) where
+  abbrev tree : Tree
+  tree = treeAt 64 slots root
+
+  -- if `check` accepts and the arrays hold values of the sets, `evaluate` gives a value of its set that is wanted
+  pub check-sound : (rows : List ℕ) (floats : List Float) → Variables (λ p n. Conforms (setAt sets n) (Worked (valueAt rows floats n))) tree →
+      (s : Kinds) → checkedAt slots sets root want end ≡ Accepted s →
+      (v : Value) × (evalAt style feature slots rows floats base root 64 ≡ Worked v) × T (has s (kindOf v)) × T (has (takenBy want) (kindOf v))
+  check-sound rows floats conforms =
+      accepted-result (arrayContext style feature rows floats base) (λ p n. setAt sets n) (λ p k. literal-kind style (base + p) k) tree conforms want end
+
+  -- by the values of names' numbers
+  abbrev with-values : (ℕ → Value) → Context
+  with-values values = record { text = textIn style feature; literals = λ p k. literalAt style (base + p) k; variables = λ p n. Worked (values n) }
+
+  -- of a plain expression whose variables are properties `check` refuses exactly if some values that these may have make it fail
+  pub check-exactly : (properties : ℕ → Property) → T (plain tree) → Variables (λ p n. setAt sets n ≡ propertyKinds (properties n)) tree →
+      T (isRefused (checkedAt slots sets root want end))
+      ↔ ((values : ℕ → Value) × ((n : ℕ) → Allowed (properties n) (values n)) × T (fails want (evalOf (with-values values) tree)))
+  check-exactly properties is-plain looked =
+      exactly (λ p n. n) properties (textIn style feature) (λ p k. literalAt style (base + p) k) (λ p k. literal-kind style (base + p) k) (λ p n. setAt sets n) tree is-plain looked want end
+
+-- ---- the slots of an expression that was judged and resolved
+
+module _ (number : List ℕ → ℕ) (small : (x : List ℕ) → number x < 1024) (text w : List ℕ) (e : Tree) (judged : judgedOf text ≡ fine e) (room : length text ≤ length w) where
+  abbrev after : List ℕ
+  after = resolvedSlots number text (slotsAfter w text)
+
+  named : treeAt 64 after (place e) ≡ resolved (λ p. number (nameAt text p)) e
+  named = read-resolved number small text w e 64 judged room (judged-fits text e judged .1)
+
+  -- what is checked is the tree, by the sets of its names
+  pub checked-named : (sets : List ℕ) (want : Wanted) (end : ℕ) →
+      checkedAt after sets (place e) want end ≡ resultOf want end (kindsOf (λ p n. setAt sets (number (nameAt text p))) e)
+  checked-named sets want end = ap (resultOf want end) (ap (kindsOf (λ p n. setAt sets n)) named ∙ kinds-resolved (λ p n. setAt sets n) (λ p. number (nameAt text p)) e)
+
+  -- and what is worked out is the tree, by the values of its names
+  pub evaluated-named : (style feature rows : List ℕ) (floats : List Float) (base : ℕ) →
+      evalAt style feature after rows floats base (place e) 64
+      ≡ evalOf (record { text = textIn style feature; literals = λ p k. literalAt style (base + p) k; variables = λ p n. Worked (valueAt rows floats (number (nameAt text p))) }) e
+  evaluated-named style feature rows floats base =
+      let c = arrayContext style feature rows floats base in
+      ap (evalOf c) named ∙ eval-resolved c (λ p. number (nameAt text p)) e
