@@ -9,9 +9,9 @@ of `&&` and `||` are held to Boolean and a conditional's branches to nothing; a 
 the call, after those of its arguments; the end is the text's length, spaces included.
 
 What the papers say of single expressions (STATED) has to come out, or the script stops. So has of every
-expression what page 01 demands: if it is accepted no feature makes it fault; if it is refused and
-has no conditional, no `&&` or `||` and no define's name, the worst feature makes it fault or end in a
-wrong kind. A table of wrong readings (WRONG) has to be found out by the cases. Running it again writes
+expression what page 01 demands: if it is accepted none of its features makes it fault; if it has no
+conditional, no `&&` or `||` and no define's name, it is refused exactly if the worst feature makes it
+fault or end in a wrong kind. A table of wrong readings (WRONG) has to be found out by the cases. Running it again writes
 the same bytes.
 
 Every file has for each expression a line of 32 bytes, the head and a line feed, a line of 16 bytes for

@@ -2,17 +2,21 @@
 use mathlib.Core.Path.{_≡_, refl}
 use mathlib.Core.Bool.{Bool, true, false, _&&_, Bool·beq, false≢true}
 use mathlib.Core.List.{List, [], _∷_, map}
-use Prim.Native.Nat.{ℕ, zero, suc}
+use Prim.Native.Nat.{ℕ, zero, suc, _<_}
 use lib.Dec.{T}
 use lib.Ieee.Bits.{is-true}
 use lib.Ieee.Fits.{and-l, and-r}
 use lib.ListN.{length, getD}
+use lib.ListN as list
+use lib.Seq.{getD-set-same}
+use borrow.Author.Tests.{lt-ltb}
 use Rattle.kind.specs.Kind.{kinds, numberOf}
 use Rattle.kind.specs.Set.{has, setOf, everyOf}
 use Rattle.kind.specs.declared.kind.Kind.{Kind}
 use Rattle.kind.specs.declared.set.Kinds.{Kinds}
 use Rattle.kind.proofs.Law.Tests.{every-kind}
-use Rattle.checker.specs.Property.{unpackedOf, packedOf}
+use Rattle.checker.specs.Name.{noRow}
+use Rattle.checker.specs.Property.{unpackedOf, packedOf, setAt}
 
 -- ---- tests over all sets
 
@@ -63,3 +67,8 @@ alike-is s t h = λ i. setOf (λ k. same k i)
 pub unpacked-packed : (s : Kinds) → unpackedOf (packedOf s) ≡ s
 unfolding unpackedOf packedOf setOf
 unpacked-packed s = alike-is (unpackedOf (packedOf s)) s (each (λ bs. alike (unpackedOf (packedOf (set bs))) (set bs)) (truths s) tt)
+
+-- so the set of a number is the one that was stored for it
+pub set-stored : (sets : List ℕ) (n : ℕ) (s : Kinds) → n < length sets → n < noRow → setAt (list.set sets n (packedOf s)) n ≡ s
+unfolding setAt
+set-stored sets n s room row = rw (lt-ltb n noRow row, getD-set-same sets n (packedOf s) 0 room) (unpacked-packed s)

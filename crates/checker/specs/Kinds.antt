@@ -30,15 +30,15 @@ literalKind k = getD literalKinds k Undefined
 -- ---- a node
 
 -- the first refusal of some parts, "left to right", or their sets
-pub data Parts : Type 0 where
-  refusedAt : ℕ → Parts
-  sets : List Kinds → Parts
+pub data Gathered : Type 0 where
+  refusedAt : ℕ → Gathered
+  sets : List Kinds → Gathered
 
-abbrev pub after : Kinds → Parts → Parts
+abbrev pub after : Kinds → Gathered → Gathered
 after s (refusedAt p) = refusedAt p
 after s (sets ss) = sets (s ∷ ss)
 
-abbrev pub gathered : List Verdict → Parts
+abbrev pub gathered : List Verdict → Gathered
 gathered [] = sets []
 gathered (Refused p ∷ vs) = refusedAt p
 gathered (Accepted s ∷ vs) = after s (gathered vs)
@@ -49,7 +49,7 @@ placed p checked.Refused = Refused p
 placed p (checked.Accepted s) = Accepted s
 
 -- "the first by its parts before itself"; a name that is not known takes nothing
-abbrev pub operated : ℕ → Found → Parts → Verdict
+abbrev pub operated : ℕ → Found → Gathered → Verdict
 operated p found (refusedAt q) = Refused q
 operated p (Known o) (sets ss) = placed p (nodeKinds o ss)
 operated p Unknown (sets ss) = Refused p

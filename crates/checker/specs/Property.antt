@@ -8,6 +8,7 @@ use Rattle.kind.specs.Set.{setOf, singleOf, unionOf}
 use Rattle.kind.specs.declared.kind.Kind.{Kind}
 use Rattle.kind.specs.declared.kind.Kind.the-variants.{Undefined, Null}
 use Rattle.kind.specs.declared.set.Kinds.{Kinds}
+use Rattle.checker.specs.Name.{noRow}
 
 -- what a name stands for, if it is no define: nothing that is declared, or a property with its type, and whether it may be absent and may be null
 pub data Property : Type 0 where
@@ -48,4 +49,4 @@ packedOf s =
 -- the set of a number; any other than those of the rows is an undeclared name's
 unfoldable pub setAt : List ℕ → ℕ → Kinds
 unfolding unpackedOf
-setAt sets n = cond (ltb n 48) (unpackedOf (getD sets n 0)) (singleOf Undefined)
+setAt sets n = cond (ltb n noRow) (unpackedOf (getD sets n 0)) (singleOf Undefined)

@@ -16,6 +16,7 @@ use kind::choice::Parts;
 use kind::choice::node_kinds;
 use kind::choice::with;
 use kind::set::Kinds;
+use syntax::judge::MOST_HEIGHT;
 use tree::node::Argument;
 use tree::node::MOST_COMMAS;
 use tree::node::Node;
@@ -43,8 +44,6 @@ enum Checks {
     Refused(usize),
     Sets(Parts),
 }
-
-const MOST_HEIGHT: usize = 64;
 
 // ---- a node from its parts
 
@@ -150,7 +149,7 @@ fn conditional(at: usize, test: Verdict, first: Verdict, second: Verdict) -> Ver
 
 // The kinds of the tree at a place, as deep as an allowance goes. The bytes of sets are those of the
 // variables' numbers.
-pub fn kinds(slots: &[u16], sets: &[u8; 48], at: usize, allowance: usize) -> Verdict
+fn kinds(slots: &[u16], sets: &[u8; 48], at: usize, allowance: usize) -> Verdict
     ensures { λ r. ⌜ r ≡ kindsAt (now (slots .entry)) (now (sets .entry)) at allowance ⌝ }
 {
     if allowance == 0 {

@@ -19,7 +19,8 @@ pub enum Scope {
 
 const PROPERTIES: usize = 32;
 
-const ROWS: usize = 48;
+// How many rows of names there are, and the number of an undeclared name.
+pub const ROWS: usize = 48;
 
 // Whether a row of names has a name. A row is where its name lies in the head.
 fn has_name(head: &[u8], starts: &[usize; 48], ends: &[usize; 48], name: &[u8], row: usize) -> bool

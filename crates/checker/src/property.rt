@@ -2,11 +2,9 @@
 ghost use mathlib.Core.Path.{_≡_};
 ghost use Prim.Native.Nat.{_≤_};
 ghost use Rattle.checker.specs.Property.{declared, onlyIf, propertyKinds, unpackedOf, bit, packedOf, setAt};
+use crate::name::ROWS;
 use kind::kind::Kind;
 use kind::set::Kinds;
-
-// How many names have a set.
-pub const ROWS: usize = 48;
 
 fn only_if(may: bool, kind: Kind) -> Kinds
     ensures { λ r. ⌜ r ≡ onlyIf may kind ⌝ }
@@ -59,7 +57,7 @@ pub fn packed(set: Kinds) -> u8
 
 // The set of a name's number, from the bytes of all sets. A number that has none is an undeclared
 // name's.
-pub fn set_at(sets: &[u8; 48], number: usize) -> Kinds
+pub(crate) fn set_at(sets: &[u8; 48], number: usize) -> Kinds
     ensures { λ r. ⌜ r ≡ setAt (now (sets .entry)) number ⌝ }
 {
     if number < ROWS {

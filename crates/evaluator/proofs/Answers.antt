@@ -1,6 +1,7 @@
 -- The third demand about what `check` and `evaluate` answer: their promises are `checkedAt` and `evalAt`, over any slots. And what they answer of an expression that was judged and resolved is what its tree's
 -- own names give.
-use mathlib.Core.Path.{_≡_, ap, _∙_}
+use mathlib.Core.Path.{_≡_, refl, ap, subst, _∙_}
+use mathlib.Core.Bool.{Bool, true, false}
 use mathlib.Core.List.{List}
 use mathlib.Core.Logic.{_↔_}
 use Prim.Native.Nat.{ℕ, _+_, _<_, _≤_}
@@ -11,6 +12,7 @@ use Rattle.kind.specs.Set.{has}
 use Rattle.kind.specs.declared.set.Kinds.{Kinds}
 use Rattle.value.specs.Value.{kindOf, textIn}
 use Rattle.value.specs.declared.apply.Outcome.the-variants.{Worked}
+use Rattle.value.specs.declared.value.Span.{Span}
 use Rattle.value.specs.declared.value.Value.{Value}
 use Rattle.tree.specs.Tree.{Tree, place}
 use Rattle.tree.specs.Node.{treeAt}
@@ -18,20 +20,20 @@ use Rattle.syntax.specs.Judge.{fine, judgedOf, slotsAfter}
 use Rattle.syntax.proofs.Laid.{judged-fits}
 use Rattle.checker.specs.Name.{nameAt, resolvedSlots, resolved}
 use Rattle.checker.specs.Property.{Property, propertyKinds, setAt}
-use Rattle.checker.specs.Kinds.{kindsOf, takenBy, resultOf}
+use Rattle.checker.specs.Kinds.{literalKind, kindsOf, takenBy, resultOf}
 use Rattle.checker.specs.Check.{checkedAt}
 use Rattle.checker.specs.declared.check.Verdict.the-variants.{Accepted}
 use Rattle.checker.specs.declared.check.Wanted.{Wanted}
 use Rattle.checker.proofs.Resolved.{read-resolved}
 use Rattle.evaluator.specs.Literal.{literalAt}
 use Rattle.evaluator.specs.Values.{valueAt}
-use Rattle.evaluator.specs.Eval.{Context, evalOf}
+use Rattle.evaluator.specs.Eval.{evalOf}
 use Rattle.evaluator.specs.Arrays.{arrayContext, evalAt}
 use Rattle.evaluator.specs.Demand.{Conforms, Allowed, Variables, plain, isRefused, fails}
 use Rattle.evaluator.proofs.Literals.{literal-kind}
 use Rattle.evaluator.proofs.Named.{kinds-resolved, eval-resolved}
-use Rattle.evaluator.proofs.Sound.{accepted-result}
-use Rattle.evaluator.proofs.Complete.{exactly}
+use Rattle.evaluator.proofs.Sound.{accepted-result, never-fails}
+use Rattle.evaluator.proofs.Complete.{Worst, worst-fails, exactly}
 
 -- ---- any slots
 
@@ -46,16 +48,23 @@ module _ (style feature slots sets : List ℕ) (base root : ℕ) (want : Wanted)
   check-sound rows floats conforms =
       accepted-result (arrayContext style feature rows floats base) (λ p n. setAt sets n) (λ p k. literal-kind style (base + p) k) tree conforms want end
 
-  -- by the values of names' numbers
-  abbrev with-values : (ℕ → Value) → Context
-  with-values values = record { text = textIn style feature; literals = λ p k. literalAt style (base + p) k; variables = λ p n. Worked (values n) }
+  -- so if `evaluate` fails with such arrays, `check` refuses
+  pub check-refuses : (rows : List ℕ) (floats : List Float) → Variables (λ p n. Conforms (setAt sets n) (Worked (valueAt rows floats n))) tree →
+      T (fails want (evalAt style feature slots rows floats base root 64)) → T (isRefused (checkedAt slots sets root want end))
+  check-refuses rows floats conforms f = go (isRefused (checkedAt slots sets root want end)) refl
+    where
+      go : (b : Bool) → isRefused (checkedAt slots sets root want end) ≡ b → T b
+      go true r = tt
+      go false r =
+          subst T (never-fails (arrayContext style feature rows floats base) (λ p n. setAt sets n) (λ p k. literal-kind style (base + p) k) tree conforms want end r) f
 
-  -- of a plain expression whose variables are properties `check` refuses exactly if some values that these may have make it fail
-  pub check-exactly : (properties : ℕ → Property) → T (plain tree) → Variables (λ p n. setAt sets n ≡ propertyKinds (properties n)) tree →
-      T (isRefused (checkedAt slots sets root want end))
-      ↔ ((values : ℕ → Value) × ((n : ℕ) → Allowed (properties n) (values n)) × T (fails want (evalOf (with-values values) tree)))
-  check-exactly properties is-plain looked =
-      exactly (λ p n. n) properties (textIn style feature) (λ p k. literalAt style (base + p) k) (λ p k. literal-kind style (base + p) k) (λ p n. setAt sets n) tree is-plain looked want end
+  -- and if `check` refuses a plain expression whose variables are properties, `evaluate` fails with any arrays that hold worst values of these
+  pub check-worst : (properties : ℕ → Property) → T (plain tree) → Variables (λ p n. setAt sets n ≡ propertyKinds (properties n)) tree →
+      (rows : List ℕ) (floats : List Float) → Variables (λ p n. Worst (properties n) (valueAt rows floats n)) tree →
+      T (isRefused (checkedAt slots sets root want end)) → T (fails want (evalAt style feature slots rows floats base root 64))
+  check-worst properties is-plain looked rows floats =
+      worst-fails (λ p n. n) properties (textIn style feature) (λ p k. literalAt style (base + p) k) (λ p k. literal-kind style (base + p) k) (λ p n. setAt sets n) tree is-plain looked want end
+      (valueAt rows floats)
 
 -- ---- the slots of an expression that was judged and resolved
 
@@ -78,3 +87,13 @@ module _ (number : List ℕ → ℕ) (small : (x : List ℕ) → number x < 1024
   evaluated-named style feature rows floats base =
       let c = arrayContext style feature rows floats base in
       ap (evalOf c) named ∙ eval-resolved c (λ p. number (nameAt text p)) e
+
+  -- "any one expression without conditional, `&&` or `||`, naming no define", by its names: `check` refuses it exactly if some values of its properties make it fail
+  pub named-exactly : (sets : List ℕ) (want : Wanted) (end : ℕ) (literals : ℕ → ℕ → Value) → ((p k : ℕ) → kindOf (literals p k) ≡ literalKind k) → (strings : Span → List ℕ) →
+      (properties : List ℕ → Property) → T (plain e) → Variables (λ p n. setAt sets (number (nameAt text p)) ≡ propertyKinds (properties (nameAt text p))) e →
+      T (isRefused (checkedAt after sets (place e) want end))
+      ↔ ((values : List ℕ → Value) × ((x : List ℕ) → Allowed (properties x) (values x))
+      × T (fails want (evalOf (record { text = strings; literals = literals; variables = λ p n. Worked (values (nameAt text p)) }) e)))
+  named-exactly sets want end literals kinds strings properties is-plain looked =
+      rw (checked-named sets want end)
+      (exactly (λ p n. nameAt text p) properties strings literals kinds (λ p n. setAt sets (number (nameAt text p))) e is-plain looked want end)

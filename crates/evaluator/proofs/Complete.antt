@@ -39,7 +39,7 @@ use Rattle.value.proofs.Kinded.{ruled, kinded}
 use Rattle.tree.specs.Tree.{Tree, literal, variable, unary, binary, conditional, bare, call, pick, Arguments, last, next}
 use Rattle.checker.specs.Operator.{prefixAt, infixAt, or, and}
 use Rattle.checker.specs.Property.{Property, undeclared, declared, onlyIf, propertyKinds}
-use Rattle.checker.specs.Kinds.{literalKind, Parts, refusedAt, sets, after, gathered, placed, operated, nodeOf, kindsOf, kindsOfAll, takenBy, resultOf}
+use Rattle.checker.specs.Kinds.{literalKind, Gathered, refusedAt, sets, after, gathered, placed, operated, nodeOf, kindsOf, kindsOfAll, takenBy, resultOf}
 use Rattle.checker.specs.declared.check.Verdict.{Verdict}
 use Rattle.checker.specs.declared.check.Verdict.the-variants.{Refused, Accepted}
 use Rattle.checker.specs.declared.check.Wanted.{Wanted}
@@ -47,7 +47,7 @@ use Rattle.checker.specs.declared.check.Wanted.the-variants as wanted
 use Rattle.evaluator.specs.Eval.{isFault, valueIn, someFault, applied, orOf, andOf, binaryOf, Context, evalOf, evalOfAll}
 use Rattle.evaluator.specs.Demand.{Allowed, Variables, VariablesOf, plain, plainAll, isRefused, fails}
 use Rattle.evaluator.proofs.Law.Sets.{has-union, in-single, single-is, in-left, in-right, is-within}
-use Rattle.evaluator.proofs.Law.Variables.{each-variable}
+use Rattle.evaluator.proofs.Law.Variables.{both-variables, each-variable}
 use Rattle.evaluator.proofs.Sound.{never-fails}
 
 -- ---- the worst values
@@ -122,7 +122,7 @@ Lows (s ∷ ss) [] = ⊥
 Lows (s ∷ ss) (v ∷ vs) = Low s v × Lows ss vs
 
 -- parts that are all accepted come to low values, unless one of them faults
-abbrev PartsFall : Parts → List Outcome → Type 0
+abbrev PartsFall : Gathered → List Outcome → Type 0
 PartsFall (refusedAt p) os = T (someFault os)
 PartsFall (sets ss) os = someFault os ≡ false → Lows ss (map valueIn os)
 
@@ -189,7 +189,7 @@ node-falls text p o ss vs l = go (nodeKinds o ss) refl (meaning text o vs) (kind
         inr (λ k h. let c = accepted o ss s e k .0 h in
         ⊎-elim (λ x. absurd (subst Given (f ∙ x) tt)) (λ g. ap (givenKind k) (sym (c .2) ∙ g ∙ sym f)) (settled o ss vs (c .0) l (c .1)))
 
-operated-falls : (text : Span → List ℕ) (p : ℕ) (found : Found) (ps : Parts) (os : List Outcome) → PartsFall ps os →
+operated-falls : (text : Span → List ℕ) (p : ℕ) (found : Found) (ps : Gathered) (os : List Outcome) → PartsFall ps os →
     Falls (operated p found ps) (applied text found os)
 operated-falls text p Unknown (refusedAt q) os h = refl
 operated-falls text p (Known o) (refusedAt q) os h = rw (is-true (someFault os) h)
@@ -200,7 +200,7 @@ operated-falls text p (Known o) (sets ss) os h = go (someFault os) refl
     go true e = fault-falls p (nodeKinds o ss)
     go false e = node-falls text p o ss (map valueIn os) (h e)
 
-after-falls : (s : Kinds) (ps : Parts) (o : Outcome) (os : List Outcome) → Falls (Accepted s) o → PartsFall ps os → PartsFall (after s ps) (o ∷ os)
+after-falls : (s : Kinds) (ps : Gathered) (o : Outcome) (os : List Outcome) → Falls (Accepted s) o → PartsFall ps os → PartsFall (after s ps) (o ∷ os)
 after-falls s (refusedAt p) o os h hs = or-r (isFault o) (someFault os) hs
 after-falls s (sets ss) Fault os h hs = λ e. absurd (true≢false e)
 after-falls s (sets ss) (Worked v) os h hs = λ e. (h, hs e)
@@ -311,20 +311,19 @@ module _ {N : Type 0} (name : ℕ → ℕ → N) (properties : N → Property) (
   abbrev with-values : (N → Value) → Context
   with-values values = record { text = text; literals = literals; variables = λ p n. Worked (values (name p n)) }
 
-  -- a refused expression fails at any worst values
-  pub worst-fails : (values : N → Value) → ((x : N) → Worst (properties x) (values x)) → T (isRefused (resultOf want end (kindsOf look e))) →
+  -- a refused expression fails at any values that are worst for its own variables
+  pub worst-fails : (values : N → Value) → Variables (λ p n. Worst (properties (name p n)) (values (name p n))) e → T (isRefused (resultOf want end (kindsOf look e))) →
       T (fails want (evalOf (with-values values) e))
   worst-fails values worst =
       result-fails want end (kindsOf look e) (evalOf (with-values values) e)
       (falls (with-values values) look kinds e t
-      (each-variable
-      (λ p n s. subst (λ (s : Kinds). Low s (values (name p n))) (sym s) (worst-low (properties (name p n)) (values (name p n)) (worst (name p n)))) e looked))
+      (both-variables (λ p n s w. subst (λ (s : Kinds). Low s (values (name p n))) (sym s) (worst-low (properties (name p n)) (values (name p n)) w)) e looked worst))
 
   -- so it is refused exactly if it fails at some values that the properties may have
   pub exactly : T (isRefused (resultOf want end (kindsOf look e)))
       ↔ ((values : N → Value) × ((x : N) → Allowed (properties x) (values x)) × T (fails want (evalOf (with-values values) e)))
   exactly = (
-    (λ r. ((λ x. worst x .0), (λ x. worst-allowed (properties x) (worst x .0) (worst x .1)), worst-fails (λ x. worst x .0) (λ x. worst x .1) r)),
+    (λ r. ((λ x. worst x .0), (λ x. worst-allowed (properties x) (worst x .0) (worst x .1)), worst-fails (λ x. worst x .0) (each-variable (λ p n s. worst (name p n) .1) e looked) r)),
     (λ w. go (w .0) (w .1) (w .2) (isRefused (resultOf want end (kindsOf look e))) refl),
   )
     where

@@ -35,7 +35,7 @@ use Rattle.value.specs.declared.value.Value.the-variants as value
 use Rattle.value.proofs.Kinded.{ruled, kinded}
 use Rattle.tree.specs.Tree.{Tree, literal, variable, unary, binary, conditional, bare, call, pick, Arguments, last, next}
 use Rattle.checker.specs.Operator.{prefixAt, infixAt, or, and}
-use Rattle.checker.specs.Kinds.{Parts, refusedAt, sets, after, gathered, placed, operated, nodeOf, conditionalOf}
+use Rattle.checker.specs.Kinds.{Gathered, refusedAt, sets, after, gathered, placed, operated, nodeOf, conditionalOf}
 use Rattle.checker.specs.Kinds.{literalKind, kindsOf, kindsOfAll, takenBy, resultOf}
 use Rattle.checker.specs.declared.check.Verdict.{Verdict}
 use Rattle.checker.specs.declared.check.Verdict.the-variants.{Refused, Accepted}
@@ -58,7 +58,7 @@ Sounds (a ∷ bs) [] = ⊥
 Sounds (a ∷ bs) (o ∷ os) = Sound a o × Sounds bs os
 
 -- parts that are all accepted meet no fault, and the kinds of their values are a choice from their sets
-abbrev SoundParts : Parts → List Outcome → Type 0
+abbrev SoundParts : Gathered → List Outcome → Type 0
 SoundParts (refusedAt p) os = Unit {0}
 SoundParts (sets ss) os = (someFault os ≡ false) × Among ss (map kindOf (map valueIn os))
 
@@ -75,7 +75,7 @@ not-refused s e = subst accepts e tt
     accepts checked.Refused = ⊥
     accepts (checked.Accepted s) = Unit {0}
 
-after-sound : (s : Kinds) (v : Value) (ps : Parts) (os : List Outcome) → T (has s (kindOf v)) → SoundParts ps os → SoundParts (after s ps) (Worked v ∷ os)
+after-sound : (s : Kinds) (v : Value) (ps : Gathered) (os : List Outcome) → T (has s (kindOf v)) → SoundParts ps os → SoundParts (after s ps) (Worked v ∷ os)
 after-sound s v (refusedAt p) os h hs = tt
 after-sound s v (sets ss) os h hs = (hs .0, (h, hs .1))
 
@@ -88,7 +88,7 @@ gathered-sound (Accepted s ∷ bs) (Fault ∷ os) h = absurd (h .0)
 gathered-sound (Accepted s ∷ bs) (Worked v ∷ os) h = after-sound s v (gathered bs) os (h .0) (gathered-sound bs os (h .1))
 
 -- the values' kinds are a choice: if it faulted the node would be refused, so it gives the value's kind, which the node's set has
-operated-sound : (text : Span → List ℕ) (p : ℕ) (found : Found) (ps : Parts) (os : List Outcome) → SoundParts ps os →
+operated-sound : (text : Span → List ℕ) (p : ℕ) (found : Found) (ps : Gathered) (os : List Outcome) → SoundParts ps os →
     Sound (operated p found ps) (applied text found os)
 operated-sound text p found (refusedAt q) os h = tt
 operated-sound text p Unknown (sets ss) os h = tt

@@ -1,14 +1,14 @@
--- What an expression is worked out from, as the evaluator is given it.
+-- What an expression is worked out from, as the evaluator is given it: page 01, "What each answer owes" ("By itself means from the strip's values").
 use mathlib.Core.List.{List}
 use Prim.Native.Nat.{ℕ, _+_}
 use lib.Ieee.{Float}
 use Rattle.value.specs.Value.{textIn}
 use Rattle.value.specs.declared.apply.Outcome.{Outcome}
 use Rattle.value.specs.declared.apply.Outcome.the-variants.{Worked}
-use Rattle.tree.specs.Node.{treeAt, argumentsAt, mostCommas}
+use Rattle.tree.specs.Node.{treeAt}
 use Rattle.evaluator.specs.Literal.{literalAt}
 use Rattle.evaluator.specs.Values.{valueAt}
-use Rattle.evaluator.specs.Eval.{Context, evalOf, evalOfAll}
+use Rattle.evaluator.specs.Eval.{Context, evalOf}
 
 -- The expression lies in the style's text from a base on; strings lie in that text or in the feature's; a variable has the value that the arrays have for its number.
 abbrev pub arrayContext : List ℕ → List ℕ → List ℕ → List Float → ℕ → Context
@@ -22,8 +22,3 @@ arrayContext style feature rows floats base =
 -- what the tree at a place of the slots comes to, as deep as an allowance goes
 abbrev pub evalAt : List ℕ → List ℕ → List ℕ → List ℕ → List Float → ℕ → ℕ → ℕ → Outcome
 evalAt style feature slots rows floats base at allowance = evalOf (arrayContext style feature rows floats base) (treeAt allowance slots at)
-
--- and the arguments of a call there
-abbrev pub evalAllAt : List ℕ → List ℕ → List ℕ → List ℕ → List Float → ℕ → ℕ → ℕ → List Outcome
-evalAllAt style feature slots rows floats base at allowance =
-    evalOfAll (arrayContext style feature rows floats base) (argumentsAt (treeAt allowance slots) mostCommas slots at)

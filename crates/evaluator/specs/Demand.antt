@@ -68,7 +68,7 @@ abbrev pub isRefused : Verdict → Bool
 isRefused (Refused p) = true
 isRefused (Accepted s) = false
 
--- "meets no kind and no count of arguments that an operator, function or pick doesn't take, and ends in no kind its line doesn't take"; this is the contrary
+-- it faults ("to meet a kind or count not taken is what this page calls a fault"), or ends in a kind that is not wanted
 abbrev pub fails : Wanted → Outcome → Bool
 fails want Fault = true
 fails want (Worked v) = not (has (takenBy want) (kindOf v))

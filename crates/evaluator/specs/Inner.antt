@@ -3,15 +3,18 @@ use mathlib.Core.Bool.{Bool, cond, _||_}
 use mathlib.Core.List.{List, [], _∷_}
 use Prim.Native.Nat.{ℕ, zero, suc}
 use lib.Dec.{eqb}
+use lib.Ieee.{Float}
 use Rattle.kind.specs.Kind.{eqKind}
 use Rattle.kind.specs.declared.kind.Kind.the-variants as kind
 use Rattle.value.specs.Value.{kindOf, truth}
 use Rattle.value.specs.declared.apply.Outcome.{Outcome}
 use Rattle.value.specs.declared.apply.Outcome.the-variants.{Fault, Worked}
-use Rattle.tree.specs.Node.{argumentAt}
+use Rattle.tree.specs.Node.{argumentAt, treeAt, argumentsAt, mostCommas}
 use Rattle.tree.specs.declared.node.Argument.{Argument}
 use Rattle.tree.specs.declared.node.Argument.the-variants.{Last, Next}
 use Rattle.checker.specs.Operator.{or, and}
+use Rattle.evaluator.specs.Eval.{evalOfAll}
+use Rattle.evaluator.specs.Arrays.{arrayContext}
 use Rattle.evaluator.specs.declared.truth.Truth.{Truth}
 use Rattle.evaluator.specs.declared.truth.Truth.the-variants as truth-of
 use Rattle.evaluator.specs.declared.arguments.Places.{Places}
@@ -58,3 +61,8 @@ withPlace places.More p = places.More
 abbrev pub withPlaces : Places → List ℕ → Places
 withPlaces a [] = a
 withPlaces a (p ∷ ps) = withPlaces (withPlace a p) ps
+
+-- what the arguments of a call come to, at a place of the slots
+abbrev pub evalAllAt : List ℕ → List ℕ → List ℕ → List ℕ → List Float → ℕ → ℕ → ℕ → List Outcome
+evalAllAt style feature slots rows floats base at allowance =
+    evalOfAll (arrayContext style feature rows floats base) (argumentsAt (treeAt allowance slots) mostCommas slots at)

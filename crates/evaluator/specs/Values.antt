@@ -6,6 +6,7 @@ use lib.Dec.{eqb, leb}
 use lib.ListN.{getD}
 use lib.Ieee.{Float, nan}
 use Rattle.value.specs.declared.value.Value.{Value}
+use Rattle.checker.specs.Name.{noRow}
 use Rattle.value.specs.declared.value.Value.the-variants.{Undefined, Null, Boolean, Number, String, Vec2, Vec3, Vec4}
 
 -- For each number there is a row of a kind and two places, and there are four floats. The kind is its number in page 01's list; 8 is a String too, one that lies in the style's text, while 4 lies in the
@@ -19,7 +20,7 @@ valueAt rows floats n =
     let y = getD floats (4 * n + 1) nan in
     let z = getD floats (4 * n + 2) nan in
     let w = getD floats (4 * n + 3) nan in
-    cond (leb 48 n) Undefined
+    cond (leb noRow n) Undefined
     (cond (eqb kind 1) Null
     (cond (eqb kind 2) (Boolean (eqb start 1))
     (cond (eqb kind 3) (Number x)

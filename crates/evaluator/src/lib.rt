@@ -1,7 +1,7 @@
 // What an expression comes to for a feature: page 01, "Kinds and meaning".
 mod arguments;
 pub mod evaluate;
-pub mod literal;
+mod literal;
 mod operation;
 mod truth;
 pub mod values;

@@ -7,14 +7,9 @@ use lexer::token::Lexeme;
 use lexer::token::Token;
 use lexer::token::token_at;
 use number::decimal;
+use value::value::NOWHERE;
 use value::value::Span;
 use value::value::Value;
-
-const NOWHERE: Span = Span {
-    literal: false,
-    start: 0,
-    end: 0,
-};
 
 fn token_number(token: Token) -> f64
     ensures { λ r. ⌜ r ≡ tokenNumber token ⌝ }
@@ -75,7 +70,7 @@ fn span_at(style: &[u8], at: usize) -> Span
 }
 
 // The literal at a place of the style, by its form: a number, a string, or a word.
-pub fn literal_at(style: &[u8], at: usize, form: usize) -> Value
+fn literal_at(style: &[u8], at: usize, form: usize) -> Value
     ensures { λ r. ⌜ r ≡ literalAt (now (style .entry)) at form ⌝ }
 {
     match form {

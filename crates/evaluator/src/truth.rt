@@ -61,13 +61,24 @@ pub(crate) fn is_logical(operator: usize) -> bool
     (operator == OR) | (operator == AND)
 }
 
-// Whether the left side of a binary operator decides alone.
-pub(crate) fn decides(operator: usize, left: Outcome) -> bool
-    ensures { λ r. ⌜ r ≡ decidesBy (testedOf left) operator ⌝ }
+// Whether the left side of a binary operator, as it was tested, decides alone.
+fn decided_by(truth: Truth, operator: usize) -> bool
+    ensures { λ r. ⌜ r ≡ decidesBy truth operator ⌝ }
 {
-    match tested(left) {
+    match truth {
         Truth::Fault => is_logical(operator),
         Truth::True => operator == OR,
         Truth::False => operator == AND,
+    }
+}
+
+// The same of what it comes to. An operator that is not logical needs no test.
+pub(crate) fn decides(operator: usize, left: Outcome) -> bool
+    ensures { λ r. ⌜ r ≡ decidesBy (testedOf left) operator ⌝ }
+{
+    if is_logical(operator) {
+        decided_by(tested(left), operator)
+    } else {
+        false
     }
 }

@@ -2,10 +2,9 @@
 // number a row of a kind and two places, and four floats.
 ghost use mathlib.Core.Path.{_≡_};
 ghost use Rattle.evaluator.specs.Values.{valueAt};
+use checker::name::ROWS;
 use value::value::Span;
 use value::value::Value;
-
-const ROWS: usize = 48;
 
 // A number that has no row is an undeclared name's.
 pub fn value_at(rows: &[usize; 144], floats: &[f64; 192], number: usize) -> Value

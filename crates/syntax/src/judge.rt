@@ -22,7 +22,7 @@ pub enum Judgement {
 
 const MOST_BYTES: usize = 1024;
 
-const MOST_HEIGHT: usize = 64;
+pub const MOST_HEIGHT: usize = 64;
 
 // 5 and 6, over the tree at a place.
 fn tree_judgement(text: &[u8], slots: &[u16], root: usize) -> Judgement

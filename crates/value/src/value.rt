@@ -25,7 +25,8 @@ pub enum Value {
     Vec4(f64, f64, f64, f64),
 }
 
-const NOWHERE: Span = Span {
+// The place of what is no String.
+pub const NOWHERE: Span = Span {
     literal: false,
     start: 0,
     end: 0,

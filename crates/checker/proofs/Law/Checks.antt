@@ -15,7 +15,7 @@ use Rattle.tree.specs.declared.node.Node.the-variants.{Literal, Variable, Unary
 use Rattle.syntax.proofs.Law.Nodes.{tree-step}
 use Rattle.kind.specs.Set.{singleOf}
 use Rattle.checker.specs.Operator.{prefixAt, infixAt}
-use Rattle.checker.specs.Kinds.{Parts, refusedAt, sets, after, gathered, placed, operated, nodeOf, literalKind, conditionalOf, kindsOf, kindsOfAll}
+use Rattle.checker.specs.Kinds.{Gathered, refusedAt, sets, after, gathered, placed, operated, nodeOf, literalKind, conditionalOf, kindsOf, kindsOfAll}
 use Rattle.checker.specs.Inner.{noChecks, withAll, nodeBy}
 use Rattle.checker.specs.declared.check.Verdict.{Verdict}
 use Rattle.checker.specs.declared.check.Verdict.the-variants.{Refused, Accepted}
@@ -30,11 +30,11 @@ refused-all p [] = refl
 refused-all p (v ∷ vs) = refused-all p vs
 
 -- parts held up to four, by the list of their sets
-abbrev known : List Kinds → Parts → Checks
+abbrev known : List Kinds → Gathered → Checks
 known ts (refusedAt p) = checks.Refused p
 known ts (sets ss) = checks.Sets (partsOf (ts ++ ss))
 
-known-after : (ts : List Kinds) (s : Kinds) (ps : Parts) → known (ts ++ s ∷ []) ps ≡ known ts (after s ps)
+known-after : (ts : List Kinds) (s : Kinds) (ps : Gathered) → known (ts ++ s ∷ []) ps ≡ known ts (after s ps)
 known-after ts s (refusedAt p) = refl
 known-after ts s (sets ss) = ap (λ us. checks.Sets (partsOf us)) (append-assoc ts (s ∷ []) ss)
 
@@ -45,7 +45,7 @@ all-known ts (Accepted s ∷ vs) =
     ap (λ ps. withAll (checks.Sets ps) vs) (sym (with-parts ts s)) ∙ all-known (ts ++ s ∷ []) vs ∙ known-after ts s (gathered vs)
 
 -- the node has the definition's verdict
-node-known : (p : ℕ) (found : Found) (ps : Parts) → nodeBy p found (known [] ps) ≡ operated p found ps
+node-known : (p : ℕ) (found : Found) (ps : Gathered) → nodeBy p found (known [] ps) ≡ operated p found ps
 unfolding nodeBy
 node-known p found (refusedAt q) = refl
 node-known p (Known o) (sets ss) = ap (placed p) (sym (any-count o ss))

@@ -1,6 +1,6 @@
 -- Laws of what nodes come to: an operation on outcomes, a test, and a binary operator by its left side.
 use mathlib.Core.Path.{_≡_, refl, sym, _∙_, ap}
-use mathlib.Core.Bool.{Bool, true, false, cond, _||_}
+use mathlib.Core.Bool.{Bool, true, false, cond, _||_, true≢false}
 use mathlib.Core.List.{List, [], _∷_, map}
 use Prim.Native.Nat.{ℕ}
 use native.Mathlib.Omega.{arith}
@@ -71,6 +71,20 @@ pub branch-by : (t : Truth) (o x a b r : Outcome) → t ≡ testedOf x → x ≡
 branch-by t o x a b r e f h = h ∙ ap (λ (u : Truth). byTruth u a b) (e ∙ ap testedOf f) ∙ sym (branch-tested o a b)
 
 -- ---- a binary operator
+
+-- one that is not logical is never decided by its left side
+pub never-decides : (t : Truth) (o : ℕ) → isLogical o ≡ false → decidesBy t o ≡ false
+never-decides truth-of.Fault o h = h
+never-decides truth-of.True o h = go (eqb o or) (eqb o and) h
+  where
+    go : (p q : Bool) → p || q ≡ false → p ≡ false
+    go true q h = h
+    go false q h = refl
+never-decides truth-of.False o h = go (eqb o or) (eqb o and) h
+  where
+    go : (p q : Bool) → p || q ≡ false → q ≡ false
+    go true q h = absurd (true≢false h)
+    go false q h = h
 
 module _ (text : Span → List ℕ) (o : ℕ) (l r : Outcome) where
   abbrev other : Outcome

@@ -1,22 +1,25 @@
--- What holds of each variable of an expression, so does what follows from it.
+-- What follows from one thing that holds of each variable of an expression, or from two, holds of each.
 use Prim.Native.Nat.{ℕ}
 use Rattle.tree.specs.Tree.{Tree, literal, variable, unary, binary, conditional, bare, call, pick, Arguments, last, next}
 use Rattle.evaluator.specs.Demand.{Variables, VariablesOf}
 
-module _ {P Q : ℕ → ℕ → Type 0} (f : (p n : ℕ) → P p n → Q p n) where
+module _ {P Q R : ℕ → ℕ → Type 0} (f : (p n : ℕ) → P p n → Q p n → R p n) where
   mutual
     unfolding Variables
 
-    pub each-variable : (e : Tree) → Variables P e → Variables Q e
-    each-variable (literal p k) h = tt
-    each-variable (variable p n) h = f p n h
-    each-variable (unary p o e) h = each-variable e h
-    each-variable (binary p o l r) h = (each-variable l (h .0), each-variable r (h .1))
-    each-variable (conditional p q c a b) h = (each-variable c (h .0), each-variable a (h .1), each-variable b (h .2))
-    each-variable (bare p g) h = tt
-    each-variable (call p g xs) h = each-argument xs h
-    each-variable (pick p i e) h = each-variable e h
+    pub both-variables : (e : Tree) → Variables P e → Variables Q e → Variables R e
+    both-variables (literal p k) h j = tt
+    both-variables (variable p n) h j = f p n h j
+    both-variables (unary p o e) h j = both-variables e h j
+    both-variables (binary p o l r) h j = (both-variables l (h .0) (j .0), both-variables r (h .1) (j .1))
+    both-variables (conditional p q c a b) h j = (both-variables c (h .0) (j .0), both-variables a (h .1) (j .1), both-variables b (h .2) (j .2))
+    both-variables (bare p g) h j = tt
+    both-variables (call p g xs) h j = both-arguments xs h j
+    both-variables (pick p i e) h j = both-variables e h j
 
-    each-argument : (xs : Arguments) → VariablesOf P xs → VariablesOf Q xs
-    each-argument (last e) h = each-variable e h
-    each-argument (next e q xs) h = (each-variable e (h .0), each-argument xs (h .1))
+    both-arguments : (xs : Arguments) → VariablesOf P xs → VariablesOf Q xs → VariablesOf R xs
+    both-arguments (last e) h j = both-variables e h j
+    both-arguments (next e q xs) h j = (both-variables e (h .0) (j .0), both-arguments xs (h .1) (j .1))
+
+pub each-variable : {P Q : ℕ → ℕ → Type 0} → ((p n : ℕ) → P p n → Q p n) → (e : Tree) → Variables P e → Variables Q e
+each-variable f e h = both-variables (λ p n h j. f p n h) e h h
