@@ -7,7 +7,7 @@ use mathlib.Core.Logic.{_↔_}
 use Prim.Native.Nat.{ℕ, _+_, _<_, _≤_}
 use lib.Dec.{T}
 use lib.Ieee.{Float}
-use lib.ListN.{length}
+use lib.ListN.{length, drop}
 use Rattle.kind.specs.Set.{has}
 use Rattle.kind.specs.declared.set.Kinds.{Kinds}
 use Rattle.value.specs.Value.{kindOf, textIn}
@@ -25,15 +25,15 @@ use Rattle.checker.specs.Check.{checkedAt}
 use Rattle.checker.specs.declared.check.Verdict.the-variants.{Accepted}
 use Rattle.checker.specs.declared.check.Wanted.{Wanted}
 use Rattle.checker.proofs.Resolved.{read-resolved}
-use Rattle.evaluator.specs.Literal.{literalAt}
+use Rattle.evaluator.specs.Literal.{literalAt, movedValue}
 use Rattle.evaluator.specs.Values.{valueAt}
 use Rattle.evaluator.specs.Eval.{evalOf}
 use Rattle.evaluator.specs.Arrays.{arrayContext, evalAt}
-use Rattle.evaluator.specs.Demand.{Conforms, Allowed, Variables, plain, isRefused, fails}
-use Rattle.evaluator.proofs.Literals.{literal-kind}
+use Rattle.evaluator.specs.Demand.{Conforms, Allowed, Worst, Variables, plain, isRefused, fails}
+use Rattle.evaluator.proofs.Literals.{literal-kind, literal-moved}
 use Rattle.evaluator.proofs.Named.{kinds-resolved, eval-resolved}
 use Rattle.evaluator.proofs.Sound.{accepted-result, never-fails}
-use Rattle.evaluator.proofs.Complete.{Worst, worst-fails, exactly}
+use Rattle.evaluator.proofs.Complete.{worst-fails, exactly}
 
 -- ---- any slots
 
@@ -80,13 +80,17 @@ module _ (number : List ℕ → ℕ) (small : (x : List ℕ) → number x < 1024
       checkedAt after sets (place e) want end ≡ resultOf want end (kindsOf (λ p n. setAt sets (number (nameAt text p))) e)
   checked-named sets want end = ap (resultOf want end) (ap (kindsOf (λ p n. setAt sets n)) named ∙ kinds-resolved (λ p n. setAt sets n) (λ p. number (nameAt text p)) e)
 
-  -- and what is worked out is the tree, by the values of its names
-  pub evaluated-named : (style feature rows : List ℕ) (floats : List Float) (base : ℕ) →
+  -- and what is worked out is the tree, by the values of its names and the literals of its text, if that lies at the end of the style's
+  pub evaluated-named : (style feature rows : List ℕ) (floats : List Float) (base : ℕ) → drop base style ≡ text →
       evalAt style feature after rows floats base (place e) 64
-      ≡ evalOf (record { text = textIn style feature; literals = λ p k. literalAt style (base + p) k; variables = λ p n. Worked (valueAt rows floats (number (nameAt text p))) }) e
-  evaluated-named style feature rows floats base =
+      ≡ evalOf (record { text = textIn style feature; literals = λ p k. movedValue base (literalAt text p k); variables = λ p n. Worked (valueAt rows floats (number (nameAt text p))) }) e
+  evaluated-named style feature rows floats base lies =
       let c = arrayContext style feature rows floats base in
-      ap (evalOf c) named ∙ eval-resolved c (λ p. number (nameAt text p)) e
+      let own : (p k : ℕ) → literalAt style (base + p) k ≡ movedValue base (literalAt text p k) =
+      λ p k. literal-moved style base p k ∙ ap (λ (t : List ℕ). movedValue base (literalAt t p k)) lies in
+      ap (evalOf c) named
+      ∙ eval-resolved c (λ p. number (nameAt text p)) e
+      ∙ (λ i. evalOf (record { text = textIn style feature; literals = λ p k. own p k i; variables = λ p n. Worked (valueAt rows floats (number (nameAt text p))) }) e)
 
   -- "any one expression without conditional, `&&` or `||`, naming no define", by its names: `check` refuses it exactly if some values of its properties make it fail
   pub named-exactly : (sets : List ℕ) (want : Wanted) (end : ℕ) (literals : ℕ → ℕ → Value) → ((p k : ℕ) → kindOf (literals p k) ≡ literalKind k) → (strings : Span → List ℕ) →

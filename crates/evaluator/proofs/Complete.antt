@@ -45,19 +45,12 @@ use Rattle.checker.specs.declared.check.Verdict.the-variants.{Refused, Accepted
 use Rattle.checker.specs.declared.check.Wanted.{Wanted}
 use Rattle.checker.specs.declared.check.Wanted.the-variants as wanted
 use Rattle.evaluator.specs.Eval.{isFault, valueIn, someFault, applied, orOf, andOf, binaryOf, Context, evalOf, evalOfAll}
-use Rattle.evaluator.specs.Demand.{Allowed, Variables, VariablesOf, plain, plainAll, isRefused, fails}
+use Rattle.evaluator.specs.Demand.{Allowed, Worst, Variables, VariablesOf, plain, plainAll, isRefused, fails}
 use Rattle.evaluator.proofs.Law.Sets.{has-union, in-single, single-is, in-left, in-right, is-within}
 use Rattle.evaluator.proofs.Law.Variables.{both-variables, each-variable}
 use Rattle.evaluator.proofs.Sound.{never-fails}
 
 -- ---- the worst values
-
--- the worst value that a property may have
-abbrev pub Worst : Property → Value → Type 0
-Worst undeclared v = v ≡ Undefined
-Worst (declared t true n) v = v ≡ Undefined
-Worst (declared t false true) v = v ≡ Null
-Worst (declared t false false) v = kindOf v ≡ t
 
 -- a kind lacks if it is Undefined or Null
 abbrev lacksOne : Kind → Bool

@@ -2,7 +2,7 @@
 pub mod Sound
 pub mod Complete
 pub mod Answers
--- Theorems about the definitions: the kinds of literals, page 01's examples, names that are resolved
+-- Theorems about the definitions: literals, page 01's examples, names that are resolved
 pub mod Literals
 pub mod Examples
 pub mod Named

@@ -1,16 +1,25 @@
--- A literal's value is of the kind that the checker gives its form.
-use mathlib.Core.Path.{_≡_, refl}
+-- A literal's value is of the kind that the checker gives its form; and it depends only on the style's bytes from its place on, but for a string's place.
+use mathlib.Core.Path.{_≡_, refl, _∙_, ap}
+use mathlib.Core.Bool.{true}
 use mathlib.Core.List.{List, [], _∷_, map}
-use Prim.Native.Nat.{ℕ, zero, suc}
-use native.Mathlib.Nat.{suc-sub-suc, sub-zero}
+use Prim.Native.Nat.{ℕ, zero, suc, _+_, _-_, _<_}
+use native.Mathlib.Nat.{add-assoc, suc-sub-suc, sub-zero}
+use native.Mathlib.Omega.{arith}
 use lib.Dec.{eqb·suc-zero, eqb·suc-suc}
-use lib.ListN.{getD}
+use lib.ListN.{length, getD, drop}
 use Rattle.kind.specs.declared.kind.Kind.the-variants as kind
+use Rattle.lexer.specs.Token.{lexemeAt}
+use Rattle.lexer.specs.declared.token.Token.{Token}
+use Rattle.lexer.specs.declared.token.Token.the-variants as token
+use Rattle.lexer.specs.declared.token.Lexeme.{Lexeme}
+use Rattle.lexer.specs.declared.token.Lexeme.the-variants.{Found, Bad, End}
+use Rattle.lexer.proofs.Law.Ahead.{Ahead, ahead}
+use Rattle.lexer.proofs.Moved.{moved, lexeme-moved}
 use Rattle.value.specs.Value.{kindOf}
 use Rattle.value.specs.declared.value.Value.{Value}
-use Rattle.value.specs.declared.value.Value.the-variants.{Undefined}
+use Rattle.value.specs.declared.value.Value.the-variants.{Undefined, Number, String}
 use Rattle.checker.specs.Kinds.{literalKind}
-use Rattle.evaluator.specs.Literal.{wordValues, literalAt}
+use Rattle.evaluator.specs.Literal.{numberIn, tokenSpan, spanIn, wordValues, literalAt, movedSpan, movedValue}
 
 -- a value of a list is of the kind at its place among the values' kinds
 kind-at : (vs : List Value) (n : ℕ) → kindOf (getD vs n Undefined) ≡ getD (map kindOf vs) n kind.Undefined
@@ -25,3 +34,46 @@ literal-kind style p zero = refl
 literal-kind style p (suc zero) = refl
 literal-kind style p (suc (suc k)) =
     rw (eqb·suc-zero (suc k), eqb·suc-suc (suc k) 0, eqb·suc-zero k, suc-sub-suc (suc k) 1, suc-sub-suc k 0, sub-zero k) (kind-at wordValues k)
+
+-- ---- a text that stands so many places further on
+
+number-moved : (base : ℕ) (x : Lexeme) → numberIn (moved base x) ≡ numberIn x
+number-moved base (Found t at end) = refl
+number-moved base (Bad at end) = refl
+number-moved base End = refl
+
+-- a token has a byte at least, so its last one can be left out at either place
+token-moved : (base at end : ℕ) (t : Token) → at < end → tokenSpan t (base + at) (base + end) ≡ movedSpan base (tokenSpan t at end)
+token-moved base at end (token.Number digits places) h = refl
+token-moved base at end token.String h =
+    let e : base + end - 1 ≡ base + (end - 1) = omega arith in
+    (λ i. record { literal = true; start = add-assoc base at 1 i; end = e i })
+token-moved base at end token.Variable h = refl
+token-moved base at end (token.Word k) h = refl
+token-moved base at end (token.Punctuator k) h = refl
+
+span-moved : (base from limit : ℕ) (x : Lexeme) → Ahead from limit x → spanIn (moved base x) ≡ movedSpan base (spanIn x)
+span-moved base from limit (Found t at end) h = token-moved base at end t (h .goes)
+span-moved base from limit (Bad at end) h = refl
+span-moved base from limit End h = refl
+
+-- no literal word is a String
+word-moved : (base k : ℕ) → getD wordValues k Undefined ≡ movedValue base (getD wordValues k Undefined)
+word-moved base zero = refl
+word-moved base (suc zero) = refl
+word-moved base (suc (suc zero)) = refl
+word-moved base (suc (suc (suc zero))) = refl
+word-moved base (suc (suc (suc (suc zero)))) = refl
+word-moved base (suc (suc (suc (suc (suc zero))))) = refl
+word-moved base (suc (suc (suc (suc (suc (suc k)))))) = refl
+
+-- A literal is worth the same wherever its text stands, but for a string's place.
+pub literal-moved : (style : List ℕ) (base p k : ℕ) → literalAt style (base + p) k ≡ movedValue base (literalAt (drop base style) p k)
+unfolding literalAt
+literal-moved style base p zero =
+    ap (λ (x : Lexeme). Number (numberIn x)) (lexeme-moved style base p) ∙ ap Number (number-moved base (lexemeAt (drop base style) p))
+literal-moved style base p (suc zero) =
+    ap (λ (x : Lexeme). String (spanIn x)) (lexeme-moved style base p)
+    ∙ ap String (span-moved base p (length (drop base style)) (lexemeAt (drop base style) p) (ahead (drop base style) p))
+literal-moved style base p (suc (suc k)) =
+    rw (eqb·suc-zero (suc k), eqb·suc-suc (suc k) 0, eqb·suc-zero k, suc-sub-suc (suc k) 1, suc-sub-suc k 0, sub-zero k) (word-moved base k)

@@ -1,4 +1,5 @@
 -- What the theorems about checked expressions speak of: page 01, "Kinds and meaning" and "What each answer owes".
+use mathlib.Core.Path.{_≡_}
 use mathlib.Core.Bool.{Bool, true, false, not, _&&_, _||_}
 use Prim.Native.Nat.{ℕ}
 use lib.Dec.{T, eqb}
@@ -8,9 +9,10 @@ use Rattle.value.specs.Value.{kindOf}
 use Rattle.value.specs.declared.apply.Outcome.{Outcome}
 use Rattle.value.specs.declared.apply.Outcome.the-variants.{Fault, Worked}
 use Rattle.value.specs.declared.value.Value.{Value}
+use Rattle.value.specs.declared.value.Value.the-variants.{Undefined, Null}
 use Rattle.tree.specs.Tree.{Tree, literal, variable, unary, binary, conditional, bare, call, pick, Arguments, last, next}
 use Rattle.checker.specs.Operator.{or, and}
-use Rattle.checker.specs.Property.{Property, propertyKinds}
+use Rattle.checker.specs.Property.{Property, undeclared, declared, propertyKinds}
 use Rattle.checker.specs.Kinds.{takenBy}
 use Rattle.checker.specs.declared.check.Verdict.{Verdict}
 use Rattle.checker.specs.declared.check.Verdict.the-variants.{Refused, Accepted}
@@ -26,6 +28,13 @@ Conforms s (Worked v) = T (has s (kindOf v))
 -- a value that a property may have
 abbrev pub Allowed : Property → Value → Type 0
 Allowed p v = Conforms (propertyKinds p) (Worked v)
+
+-- the worst value that a property may have: none if it may be absent, else null if it may be null, else any of its type
+abbrev pub Worst : Property → Value → Type 0
+Worst undeclared v = v ≡ Undefined
+Worst (declared t true n) v = v ≡ Undefined
+Worst (declared t false true) v = v ≡ Null
+Worst (declared t false false) v = kindOf v ≡ t
 
 -- ---- the variables of an expression
 

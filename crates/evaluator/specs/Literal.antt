@@ -15,7 +15,7 @@ use Rattle.lexer.specs.declared.token.Lexeme.the-variants.{Found, Bad, End}
 use Rattle.value.specs.Value.{nowhere}
 use Rattle.value.specs.declared.value.Span.{Span}
 use Rattle.value.specs.declared.value.Value.{Value}
-use Rattle.value.specs.declared.value.Value.the-variants.{Undefined, Null, Boolean, Number, String}
+use Rattle.value.specs.declared.value.Value.the-variants.{Undefined, Null, Boolean, Number, String, Vec2, Vec3, Vec4}
 
 -- the value of a number token, and 0 for any other
 abbrev pub tokenNumber : Token → Float
@@ -54,3 +54,20 @@ literalAt style at form =
     cond (eqb form 0) (Number (numberIn (lexemeAt style at)))
     (cond (eqb form 1) (String (spanIn (lexemeAt style at)))
     (getD wordValues (form - 2) Undefined))
+
+-- ---- the literals of a text that lies in the style's
+
+-- the place of a literal's text, so many places further on; any other place is none of the style's
+abbrev pub movedSpan : ℕ → Span → Span
+movedSpan base s = cond (s .literal) (record { literal = true; start = base + s .start; end = base + s .end }) s
+
+-- a String of the style's text, so many places further on; any other value is the same
+abbrev pub movedValue : ℕ → Value → Value
+movedValue base Undefined = Undefined
+movedValue base Null = Null
+movedValue base (Boolean b) = Boolean b
+movedValue base (Number x) = Number x
+movedValue base (String s) = String (movedSpan base s)
+movedValue base (Vec2 x y) = Vec2 x y
+movedValue base (Vec3 x y z) = Vec3 x y z
+movedValue base (Vec4 x y z w) = Vec4 x y z w

@@ -1,6 +1,6 @@
 // What the tree at a place comes to. The slots are those of one expression, which lies in the style's
-// text from `base` on; the arrays hold the values of the variables' numbers, and the feature's text
-// their strings.
+// text from `base` on; the text is to be cut at the expression's end, so that no literal reaches past
+// it. The arrays hold the values of the variables' numbers, and the feature's text their strings.
 ghost use mathlib.Core.Path.{_≡_};
 ghost use Rattle.value.specs.Value.{textIn};
 ghost use Rattle.value.specs.Name.{functionAt};

@@ -92,7 +92,8 @@ fn text_agrees(
     }
 }
 
-pub(crate) fn agrees(
+// The expression lies at the end of the style's text.
+fn cut_agrees(
     fd: i32,
     name: &[u8],
     head: &[u8],
@@ -102,12 +103,26 @@ pub(crate) fn agrees(
     sets: &[u8; 48],
 ) -> bool {
     let base = line::number(head, 5, 8) as usize;
+    if base <= style.len() {
+        let text = &style[base..];
+        return text_agrees(fd, name, head, style, text, starts, ends, sets, base);
+    }
+    report::malformed(name, head);
+    false
+}
+
+pub(crate) fn agrees(
+    fd: i32,
+    name: &[u8],
+    head: &[u8],
+    style: &[u8],
+    starts: &[usize; 48],
+    ends: &[usize; 48],
+    sets: &[u8; 48],
+) -> bool {
     let end = line::number(head, 9, 12) as usize;
-    if base <= end {
-        if end <= style.len() {
-            let text = &style[base..end];
-            return text_agrees(fd, name, head, style, text, starts, ends, sets, base);
-        }
+    if end <= style.len() {
+        return cut_agrees(fd, name, head, &style[0..end], starts, ends, sets);
     }
     report::malformed(name, head);
     false

@@ -3,6 +3,7 @@ pub mod Longest
 pub mod Munch
 pub mod Only
 pub mod OnDemand
+pub mod Moved
 pub mod Refusals
 pub mod Parted
 -- What the functions' proofs lean on
