@@ -92,7 +92,7 @@ module _ (number : List ℕ → ℕ) (small : (x : List ℕ) → number x < 1024
       ∙ eval-resolved c (λ p. number (nameAt text p)) e
       ∙ (λ i. evalOf (record { text = textIn style feature; literals = λ p k. own p k i; variables = λ p n. Worked (valueAt rows floats (number (nameAt text p))) }) e)
 
-  -- "any one expression without conditional, `&&` or `||`, naming no define", by its names: `check` refuses it exactly if some values of its properties make it fail
+  -- An expression without conditional, `&&` or `||` that names no define, by its names: `check` refuses it exactly if some values of its properties make it fail
   pub named-exactly : (sets : List ℕ) (want : Wanted) (end : ℕ) (literals : ℕ → ℕ → Value) → ((p k : ℕ) → kindOf (literals p k) ≡ literalKind k) → (strings : Span → List ℕ) →
       (properties : List ℕ → Property) → T (plain e) → Variables (λ p n. setAt sets (number (nameAt text p)) ≡ propertyKinds (properties (nameAt text p))) e →
       T (isRefused (checkedAt after sets (place e) want end))

@@ -5,7 +5,7 @@ use mathlib.Core.Bool.{Bool, true, false, not, cond, _&&_, _||_, true≢false}
 use mathlib.Core.List.{List, [], _∷_, map}
 use mathlib.Core.Logic.{_⊎_, inl, inr, ⊎-elim, _↔_}
 use Prim.Native.Nat.{ℕ, suc}
-use lib.Dec.{T, not-T, eqb}
+use lib.Dec.{T, T-not, not-T, eqb}
 use lib.Ieee.Bits.{is-true}
 use lib.Ieee.Fits.{and-l, and-r}
 use lib.ListN.{length}
@@ -24,7 +24,8 @@ use Rattle.kind.specs.declared.choice.Checked.{Checked}
 use Rattle.kind.specs.declared.choice.Checked.the-variants as checked
 use Rattle.kind.proofs.Choosing.{Among, refused, accepted}
 use Rattle.kind.proofs.Lacking.{lacks, lacking}
-use Rattle.kind.proofs.Law.Choices.{or-l, or-r, or-elim, has-set}
+use Rattle.kind.proofs.Law.Choices.{or-l, or-r, or-elim, is-false, has-set}
+use Rattle.kind.proofs.Law.Sets.{has-union, in-single, single-is, in-left, in-right, is-within}
 use Rattle.value.specs.Value.{kindOf, nowhere}
 use Rattle.value.specs.Meaning.{meaning}
 use Rattle.value.specs.Name.{functionAt, pickAt}
@@ -44,9 +45,9 @@ use Rattle.checker.specs.declared.check.Verdict.{Verdict}
 use Rattle.checker.specs.declared.check.Verdict.the-variants.{Refused, Accepted}
 use Rattle.checker.specs.declared.check.Wanted.{Wanted}
 use Rattle.checker.specs.declared.check.Wanted.the-variants as wanted
-use Rattle.evaluator.specs.Eval.{isFault, valueIn, someFault, applied, orOf, andOf, binaryOf, Context, evalOf, evalOfAll}
+use Rattle.evaluator.specs.Eval.{isFault, valueIn, someFault, applied, Context, evalOf, evalOfAll}
 use Rattle.evaluator.specs.Demand.{Allowed, Worst, Variables, VariablesOf, plain, plainAll, isRefused, fails}
-use Rattle.evaluator.proofs.Law.Sets.{has-union, in-single, single-is, in-left, in-right, is-within}
+use Rattle.evaluator.proofs.Law.Outcomes.{otherwise}
 use Rattle.evaluator.proofs.Law.Variables.{both-variables, each-variable}
 use Rattle.evaluator.proofs.Sound.{never-fails}
 
@@ -209,16 +210,6 @@ parts-fall : (text : Span → List ℕ) (p : ℕ) (found : Found) (bs : List Ver
     Falls (nodeOf p found bs) (applied text found os)
 parts-fall text p found bs os h = operated-falls text p found (gathered bs) os (gathered-falls bs os h)
 
--- an operator that works out both its sides
-eager : (text : Span → List ℕ) (o : ℕ) (l r : Outcome) → T (not (eqb o or || eqb o and)) → binaryOf text o l r ≡ applied text (infixAt o) (l ∷ r ∷ [])
-eager text o l r h = go (eqb o or) (eqb o and) h
-  where
-    go : (x y : Bool) → T (not (x || y)) →
-        cond x (orOf l r) (cond y (andOf l r) (applied text (infixAt o) (l ∷ r ∷ []))) ≡ applied text (infixAt o) (l ∷ r ∷ [])
-    go true y h = absurd h
-    go false true h = absurd h
-    go false false h = refl
-
 -- ---- an expression
 
 module _ (c : Context) (look : ℕ → ℕ → Kinds) (literals : (p k : ℕ) → kindOf (c .literals p k) ≡ literalKind k) where
@@ -232,7 +223,7 @@ module _ (c : Context) (look : ℕ → ℕ → Kinds) (literals : (p k : ℕ) �
     falls (binary p o l r) t h =
         let alone = not (eqb o or || eqb o and) in
         let sides = and-r alone (plain l && plain r) t in
-        rw (eager (c .text) o (evalOf c l) (evalOf c r) (and-l alone (plain l && plain r) t))
+        rw (← otherwise (c .text) o (evalOf c l) (evalOf c r) (is-false (eqb o or || eqb o and) (T-not (eqb o or || eqb o and) (and-l alone (plain l && plain r) t))))
         (parts-fall (c .text) p (infixAt o) (kindsOf look l ∷ kindsOf look r ∷ []) (evalOf c l ∷ evalOf c r ∷ [])
         (falls l (and-l (plain l) (plain r) sides) (h .0), (falls r (and-r (plain l) (plain r) sides) (h .1), tt)))
     falls (conditional p q a b d) t h = absurd t

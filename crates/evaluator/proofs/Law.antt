@@ -1,4 +1,3 @@
-pub mod Sets
 pub mod Variables
 pub mod Texts
 pub mod Outcomes

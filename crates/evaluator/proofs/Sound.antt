@@ -22,6 +22,7 @@ use Rattle.kind.specs.declared.choice.Checked.{Checked}
 use Rattle.kind.specs.declared.choice.Checked.the-variants as checked
 use Rattle.kind.proofs.Choosing as choosing
 use Rattle.kind.proofs.Choosing.{Among, refuses}
+use Rattle.kind.proofs.Law.Sets.{has-single, in-single, in-left, in-right, within}
 use Rattle.value.specs.Value.{kindOf, truth}
 use Rattle.value.specs.Meaning.{meaning}
 use Rattle.value.specs.Name.{functionAt, pickAt}
@@ -42,7 +43,6 @@ use Rattle.checker.specs.declared.check.Verdict.the-variants.{Refused, Accepted
 use Rattle.checker.specs.declared.check.Wanted.{Wanted}
 use Rattle.evaluator.specs.Eval.{valueIn, someFault, applied, branchOf, booleanOf, orOf, andOf, binaryOf, Context, evalOf, evalOfAll}
 use Rattle.evaluator.specs.Demand.{Conforms, Variables, VariablesOf, isRefused, fails}
-use Rattle.evaluator.proofs.Law.Sets.{has-single, in-single, in-left, in-right, within}
 
 -- ---- a verdict and an outcome go together
 

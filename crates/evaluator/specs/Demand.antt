@@ -54,7 +54,7 @@ unfoldable mutual
   VariablesOf P (last e) = Variables P e
   VariablesOf P (next e q xs) = Variables P e × VariablesOf P xs
 
--- ---- "without conditional, `&&` or `||`"
+-- ---- expressions without conditional, `&&` or `||`
 
 abbrev mutual
   pub plain : Tree → Bool
