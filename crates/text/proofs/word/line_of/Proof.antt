@@ -1,0 +1,26 @@
+use borrow.Author.Needs.{needs}
+use Rattle.text.proofs.word.line_of.Statement.{statement}
+use Rattle.text.proofs.word.line_of.Tie as tie
+use mathlib.Core.Path.{_∙_, ap}
+use Prim.Native.Nat.{_-_}
+use Rattle.text.specs.Word.{lineWords, lineNumbered, lineOf}
+use Rattle.text.proofs.Law.Words.{numbered}
+
+slice-aggregate-number-in : tie.Need-slice-aggregate-number-in
+slice-aggregate-number-in c = search needs
+
+number-in-requires : tie.Need-number-in-requires
+number-in-requires c κs = search needs
+
+line-numbered-requires : tie.Need-line-numbered-requires
+line-numbered-requires c κs = search needs
+
+returns : tie.Need-returns
+unfolding lineOf
+returns c =
+    c .line-numbered .ensures ∙ ap lineNumbered (numbered _ lineWords (c .before .before .before .before .args .word .now) (c .before .number-in .ensures))
+
+pub line-of-spec : {M : Type 1} → statement M
+line-of-spec =
+    tie.close
+    (tie.spec slice-aggregate-number-in number-in-requires line-numbered-requires returns)
