@@ -6,5 +6,7 @@ pub mod Answers
 pub mod Literals
 pub mod Examples
 pub mod Named
+-- The arrays of values: what is stored is read back, and changes no other number's value
+pub mod Stored
 -- What the functions' proofs lean on
 pub mod Law

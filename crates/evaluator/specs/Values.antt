@@ -1,10 +1,13 @@
 -- The values of names as they lie in arrays, by the names' numbers: page 01, "Kinds and meaning" ("A value is of one of eight kinds"). A number that has no row is an undeclared name's.
 use mathlib.Core.Bool.{true, false, cond}
-use mathlib.Core.List.{List}
+use mathlib.Core.List.{List, [], _∷_}
 use Prim.Native.Nat.{ℕ, _+_, _*_}
 use lib.Dec.{eqb, leb}
 use lib.ListN.{getD}
 use lib.Ieee.{Float, nan}
+use lib.Seq.{sets}
+use Rattle.kind.specs.Kind.{numberOf}
+use Rattle.value.specs.Value.{kindOf, at, truth, span}
 use Rattle.value.specs.declared.value.Value.{Value}
 use Rattle.checker.specs.Name.{noRow}
 use Rattle.value.specs.declared.value.Value.the-variants.{Undefined, Null, Boolean, Number, String, Vec2, Vec3, Vec4}
@@ -29,3 +32,28 @@ valueAt rows floats n =
     (cond (eqb kind 6) (Vec3 x y z)
     (cond (eqb kind 7) (Vec4 x y z w)
     (cond (eqb kind 8) (String (record { literal = true; start = start; end = end })) Undefined))))))))
+
+-- ---- a value that is stored
+
+-- its row, which is its kind and two places, and its floats
+abbrev pub rowKind : Value → ℕ
+rowKind v = cond (span v .literal) 8 (numberOf (kindOf v))
+
+abbrev pub rowStart : Value → ℕ
+rowStart v = cond (truth v) 1 (span v .start)
+
+abbrev pub rowEnd : Value → ℕ
+rowEnd v = span v .end
+
+abbrev pub rowOf : Value → List ℕ
+rowOf v = rowKind v ∷ rowStart v ∷ rowEnd v ∷ []
+
+abbrev pub floatsOf : Value → List Float
+floatsOf v = at 0 v ∷ at 1 v ∷ at 2 v ∷ at 3 v ∷ []
+
+-- the rows and the floats with those of a number set; a number that has no row changes nothing
+unfoldable pub storedRows : List ℕ → ℕ → Value → List ℕ
+storedRows rows n v = cond (leb noRow n) rows (sets rows (3 * n) (rowOf v))
+
+unfoldable pub storedFloats : List Float → ℕ → Value → List Float
+storedFloats floats n v = cond (leb noRow n) floats (sets floats (4 * n) (floatsOf v))
