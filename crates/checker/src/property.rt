@@ -57,7 +57,7 @@ pub fn packed(set: Kinds) -> u8
 
 // The set of a name's number, from the bytes of all sets. A number that has none is an undeclared
 // name's.
-pub(crate) fn set_at(sets: &[u8; 48], number: usize) -> Kinds
+pub fn set_at(sets: &[u8; 48], number: usize) -> Kinds
     ensures { λ r. ⌜ r ≡ setAt (now (sets .entry)) number ⌝ }
 {
     if number < ROWS {

@@ -1,6 +1,6 @@
 // Sets of kinds.
 ghost use mathlib.Core.Path.{_≡_};
-ghost use Rattle.kind.specs.Set.{singleOf, unionOf, withinOf, emptyOf};
+ghost use Rattle.kind.specs.Set.{has, singleOf, unionOf, withinOf, emptyOf};
 use crate::kind::Kind;
 
 pub struct Kinds {
@@ -138,6 +138,21 @@ impl Kinds {
             Kind::Vec2 => Kinds::VEC2,
             Kind::Vec3 => Kinds::VEC3,
             Kind::Vec4 => Kinds::VEC4,
+        }
+    }
+
+    pub fn has(self, kind: Kind) -> bool
+        ensures { λ r. ⌜ r ≡ has self kind ⌝ }
+    {
+        match kind {
+            Kind::Undefined => self.undefined,
+            Kind::Null => self.null,
+            Kind::Boolean => self.boolean,
+            Kind::Number => self.number,
+            Kind::String => self.string,
+            Kind::Vec2 => self.vec2,
+            Kind::Vec3 => self.vec3,
+            Kind::Vec4 => self.vec4,
         }
     }
 
