@@ -1,3 +1,4 @@
 pub mod Parts
 pub mod Name
 pub mod Word
+pub mod Slice

@@ -1,5 +1,6 @@
 // The parts of a text that one byte parts: lines by LF, fields by a tab, a vector's numbers by a space.
 ghost use mathlib.Core.Path.{_≡_};
+ghost use Prim.Native.Nat.{_≤_};
 ghost use lib.ListN.{length};
 ghost use Rattle.text.specs.Parts.{parted, endFrom, partAt};
 
@@ -44,7 +45,9 @@ pub fn count(separator: u8, text: &[u8]) -> usize
 
 // The part with an index from 0 on, or the text's end if there are fewer.
 pub fn nth(separator: u8, text: &[u8], index: usize) -> Part
-    ensures { λ r. ⌜ r ≡ partAt separator (now (text .entry)) index ⌝ }
+    ensures is { λ r. ⌜ r ≡ partAt separator (now (text .entry)) index ⌝ }
+    ensures order { λ r. ⌜ r .start ≤ r .end ⌝ }
+    ensures inside { λ r. ⌜ r .end ≤ length (now (text .entry)) ⌝ }
 {
     let mut start = 0;
     let mut left = index;

@@ -1,16 +1,18 @@
 -- Parts by their places.
 use mathlib.Core.Path.{_≡_, refl, sym, _∙_, ap, subst}
-use mathlib.Core.Bool.{Bool, true, false, not}
-use mathlib.Core.List.{List, [], _∷_}
+use mathlib.Core.Bool.{Bool, true, false, cond, not}
+use mathlib.Core.List.{List, [], _∷_, _++_}
 use Prim.Native.Nat.{ℕ, zero, suc, _+_, _-_, _<_, _≤_}
 use native.Mathlib.Nat.{add-sub-cancel-left}
 use native.Mathlib.Numerals.{add-one}
 use native.Mathlib.Omega.{arith}
-use borrow.Author.Tests.{ltb-true, ltb-false, lt-ltb, le-ltb}
-use lib.Dec.{eqb, ltb}
+use borrow.Author.Tests.{eq-eqb, not-true, ltb-true, ltb-false, lt-ltb, le-ltb, lt-leb, le-leb}
+use lib.Dec.{eqb, ltb, leb}
+use lib.Ieee.Bits.{is-true}
 use lib.ListN.{length, getD, take, drop, length-drop, drop-of-length-le}
 use lib.Seq.{slice, take-all, drop-cons, drop-drop, length-slice}
 use Rattle.lexer.specs.Bytes.{run}
+use Rattle.lexer.specs.Spelling.{All}
 use Rattle.lexer.proofs.Law.Runs.{run-cons, run-nil, run-le}
 use Rattle.lexer.proofs.Law.Spelling.{slice-is}
 use Rattle.words.specs.Table.{before}
@@ -63,6 +65,16 @@ only-part b (x ∷ xs) h = go (eqb x b) refl (only-part b xs)
     go true e more = absurd (omega (arith, h, first-ends ([] ∷ []) b x xs e .1))
     go false e more = let f = first-goes ([] ∷ []) b x xs e in f .0 ∙ ap (before x) (more (omega (arith, h, f .1)))
 
+-- a text that is joined of one without such a byte, such a byte and a rest
+module _ (b : ℕ) where
+  pub parted-joined : (p rest : List ℕ) → All (λ x. not (eqb x b)) p → parted b (p ++ b ∷ rest) ≡ p ∷ parted b rest
+  parted-joined [] rest h = first-ends ([] ∷ []) b b rest (eq-eqb b b refl) .0
+  parted-joined (x ∷ p) rest h = first-goes ([] ∷ []) b x (p ++ b ∷ rest) (not-true _ (is-true _ (h .0))) .0 ∙ ap (before x) (parted-joined p rest (h .1))
+
+  pub parted-alone : (p : List ℕ) → All (λ x. not (eqb x b)) p → parted b p ≡ p ∷ []
+  parted-alone [] h = refl
+  parted-alone (x ∷ p) h = first-goes ([] ∷ []) b x p (not-true _ (is-true _ (h .0))) .0 ∙ ap (before x) (parted-alone p (h .1))
+
 line-goes : (x : ℕ) (ys : List ℕ) (t : Bool) → eqb x 10 ≡ t → length (x ∷ ys) ≤ run (λ x. not (eqb x 10)) (x ∷ ys) →
     (eqb x 10 ≡ false → length ys ≤ run (λ x. not (eqb x 10)) ys → before x (lines ys) ≡ (x ∷ ys) ∷ []) → lines (x ∷ ys) ≡ (x ∷ ys) ∷ []
 line-goes x ys true e h more = absurd (omega (arith, h, first-ends [] 10 x ys e .1))
@@ -114,6 +126,40 @@ lines-from text at h = by-order (endFrom 10 text at) (length text) (λ k. parts-
         let past : drop (endFrom 10 text at + 1) text ≡ [] = drop-of-length-le text {i = endFrom 10 text at + 1} (omega (arith, k)) in
         one ∙ rw (past, ← last-from 10 text at (omega (arith, h)) k)
 
+-- ---- the parts from a place on
+
+-- of which there are none behind the text's end
+unfoldable pub partsFrom : ℕ → List ℕ → ℕ → List (List ℕ)
+partsFrom b text at = cond (leb at (length text)) (parted b (drop at text)) []
+
+module _ (b : ℕ) (text : List ℕ) where
+  parts-within : (at : ℕ) → at ≤ length text → partsFrom b text at ≡ parted b (drop at text)
+  unfolding partsFrom
+  parts-within at h = rw (le-leb at (length text) h)
+
+  pub parts-all : partsFrom b text 0 ≡ parted b text
+  parts-all = parts-within 0 (omega arith)
+
+  pub parts-behind : (at : ℕ) → length text < at → partsFrom b text at ≡ []
+  unfolding partsFrom
+  parts-behind at h = rw (lt-leb at (length text) h)
+
+  -- the part here, and those behind it and the byte that ends it
+  pub parts-on : (at : ℕ) → at ≤ length text → partsFrom b text at ≡ slice at (endFrom b text at) text ∷ partsFrom b text (endFrom b text at + 1)
+  parts-on at h = parts-within at h ∙ by-order (endFrom b text at) (length text) more last
+    where
+      more : endFrom b text at < length text → parted b (drop at text) ≡ slice at (endFrom b text at) text ∷ partsFrom b text (endFrom b text at + 1)
+      more k = parts-from b text at ([] ∷ []) k ∙ rw (parts-within (endFrom b text at + 1) (omega (arith, k)))
+
+      last : length text ≤ endFrom b text at → parted b (drop at text) ≡ slice at (endFrom b text at) text ∷ partsFrom b text (endFrom b text at + 1)
+      last k =
+          only-part b (drop at text) (omega (arith, k, length-drop at text))
+          ∙ rw (parts-behind (endFrom b text at + 1) (omega (arith, k)), ← last-from b text at h k)
+
+  -- some are left only within the text
+  pub parts-some : (at : ℕ) → 0 < length (partsFrom b text at) → at ≤ length text
+  parts-some at h = by-order (length text) at (λ k. absurd (omega (arith, h, ap length (parts-behind at k)))) (λ k. k)
+
 -- ---- the parts from one on
 
 -- the parts from the i-th on are those of the text from a place on, where that part begins
@@ -129,7 +175,7 @@ from-first b text = record { inside = omega arith; left = refl; start = first (p
     first [] = refl
     first (p ∷ ps) = refl
 
-some-part : (b : ℕ) (s : List ℕ) → 0 < length (parted b s)
+pub some-part : (b : ℕ) (s : List ℕ) → 0 < length (parted b s)
 some-part b [] = omega arith
 some-part b (x ∷ xs) = go (eqb x b) refl
   where
@@ -142,7 +188,7 @@ some-part b (x ∷ xs) = go (eqb x b) refl
         push (p ∷ ps) = omega arith
 
 -- the next part begins behind this one and the byte that ends it
-start-next : (ps : List (List ℕ)) (i : ℕ) → i < length ps → startIn ps (suc i) ≡ suc (startIn ps i + length (getD ps i []))
+pub start-next : (ps : List (List ℕ)) (i : ℕ) → i < length ps → startIn ps (suc i) ≡ suc (startIn ps i + length (getD ps i []))
 start-next [] i h = absurd (omega arith)
 start-next (p ∷ []) zero h = omega arith
 start-next (p ∷ q ∷ ps) zero h = omega arith

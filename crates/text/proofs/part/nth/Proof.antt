@@ -6,7 +6,7 @@ use mathlib.Core.Path.{_≡_, subst}
 use Prim.Native.Nat.{ℕ, _≤_, _+_, _-_}
 use native.Mathlib.Omega.{arith}
 use lib.ListN.{length}
-use Rattle.text.proofs.Law.Parts.{From, from-first, next-from, found, part-none}
+use Rattle.text.proofs.Law.Parts.{From, from-first, next-from, found, part-none, end-within}
 
 abbrev Inv-loop : tie.InvT-loop
 Inv-loop separator text index start₀ left₀ start left =
@@ -25,7 +25,7 @@ end-requires c κs = search needs
 
 returns : tie.Need-returns Inv-loop μ-loop
 returns c =
-    part-none _ _ _ _ (c .before .before .before .loop .inv .2) (subst (λ (n : ℕ). length (c .before .before .before .before .before .args .text .now) ≤ n) (c .before .end .ensures) (c .if1 .taken)) _ (omega (arith, c .before .before .before .loop .inv .1, c .before .before .loop-test .taken))
+    (part-none _ _ _ _ (c .before .before .before .loop .inv .2) (subst (λ (n : ℕ). length (c .before .before .before .before .before .args .text .now) ≤ n) (c .before .end .ensures) (c .if1 .taken)) _ (omega (arith, c .before .before .before .loop .inv .1, c .before .before .loop-test .taken)), (omega arith, omega arith))
 
 add-start : tie.Need-add-start Inv-loop μ-loop
 add-start c = search needs
@@ -45,7 +45,7 @@ end-requires-2 c κs = search needs
 
 returns-2 : tie.Need-returns-2 Inv-loop μ-loop
 returns-2 c =
-    found _ _ _ _ _ _ _ (c .before .before .loop .inv .1) (c .before .loop-test .left) (c .before .before .loop .inv .2) (c .end2 .ensures)
+    (found _ _ _ _ _ _ _ (c .before .before .loop .inv .1) (c .before .loop-test .left) (c .before .before .loop .inv .2) (c .end2 .ensures), (omega (arith, c .end2 .ensures), omega (arith, c .end2 .ensures, end-within (c .before .before .before .before .args .separator) (c .before .before .before .before .args .text .now) (c .before .before .loop .start) (c .before .before .loop .inv .2 .inside))))
 
 pub nth-spec : {M : Type 1} → statement M
 nth-spec =

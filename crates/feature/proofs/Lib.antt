@@ -1,0 +1,5 @@
+-- Theorems about the definitions: lines of samples are read as their values; the arrays hold what was stored
+pub mod Samples
+pub mod Filled
+-- What the functions' proofs lean on
+pub mod Law

@@ -1,0 +1,5 @@
+pub mod Field
+pub mod Feature
+pub mod Sample
+-- What the functions promise to each other
+pub mod Inner

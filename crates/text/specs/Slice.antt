@@ -1,0 +1,8 @@
+-- What a part of a slice means that was lent and came back.
+use mathlib.Core.List.{List, _++_}
+use Prim.Native.Nat.{ℕ, _-_}
+use lib.ListN.{take, drop}
+
+-- other elements in place of those from one place up to another
+unfoldable pub putBack : List ℕ → ℕ → ℕ → List ℕ → List ℕ
+putBack l from to part = take from l ++ (part ++ drop (to - from) (drop from l))
