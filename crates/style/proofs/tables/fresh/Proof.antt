@@ -1,0 +1,13 @@
+use Rattle.style.proofs.tables.fresh.Statement.{statement}
+use Rattle.style.proofs.tables.fresh.Tie as tie
+use mathlib.Core.Path.{refl}
+use Prim.Native.Nat.{_-_}
+use Rattle.style.specs.Inner.{freshTables}
+
+returns : tie.Need-returns
+unfolding freshTables
+returns c =
+    refl
+
+pub fresh-spec : {M : Type 1} → statement M
+fresh-spec = tie.close (tie.spec returns)

@@ -1,0 +1,30 @@
+use borrow.Author.Needs.{needs}
+use Rattle.style.proofs.tables.with_name.Statement.{statement}
+use Rattle.style.proofs.tables.with_name.Tie as tie
+use mathlib.Core.Path.{refl}
+use Prim.Native.Nat.{_-_}
+use Rattle.style.specs.Inner.{withName}
+
+mul-t : tie.Need-mul-t
+mul-t c = search needs
+
+element-write-t : tie.Need-element-write-t
+element-write-t c = search needs
+
+mul-t-2 : tie.Need-mul-t-2
+mul-t-2 c = search needs
+
+element-write-t-2 : tie.Need-element-write-t-2
+element-write-t-2 c = search needs
+
+element-write-t-3 : tie.Need-element-write-t-3
+element-write-t-3 c = search needs
+
+returns : tie.Need-returns
+unfolding withName
+returns c =
+    refl
+
+pub with-name-spec : {M : Type 1} → statement M
+with-name-spec =
+    tie.close (tie.spec mul-t element-write-t mul-t-2 element-write-t-2 element-write-t-3 returns)

@@ -1,0 +1,102 @@
+-- What a head gives: page 01, "What the painter reads", "Sizes" and "Kinds and meaning".
+use mathlib.Core.Bool.{Bool, true, false, cond, _&&_}
+use mathlib.Core.List.{List, [], _∷_, _++_, map}
+use Prim.Native.Nat.{ℕ}
+use lib.Dec.{eqb, ltb}
+use lib.ListN.{length}
+use Rattle.lexer.specs.Bytes.{same}
+use Rattle.kind.specs.declared.set.Kinds.{Kinds}
+use Rattle.tree.specs.Tree.{Tree}
+use Rattle.checker.specs.Property.{Property, undeclared, propertyKinds}
+use Rattle.checker.specs.declared.name.Scope.{Scope}
+use Rattle.checker.specs.declared.name.Scope.the-variants as scope
+use Rattle.text.specs.declared.word.Line.{Line}
+use Rattle.text.specs.declared.word.Line.the-variants as line
+
+-- a property by its name
+pub record Declared : Type 0 where
+  pub name : List ℕ
+  pub property : Property
+
+-- an expression, with its tree and the kinds that it may end in
+pub record Expression : Type 0 where
+  pub text : List ℕ
+  pub tree : Tree
+  pub kinds : Kinds
+
+pub record Define : Type 0 where
+  pub name : List ℕ
+  pub expression : Expression
+
+pub record Condition : Type 0 where
+  pub test : Expression
+  pub colour : Expression
+
+-- The schema and the style; of `show` and `color` there is at most one.
+pub record Style : Type 0 where
+  pub properties : List Declared
+  pub defines : List Define
+  pub shows : List Expression
+  pub colours : List Expression
+  pub conditions : List Condition
+
+abbrev pub empty : Style
+empty = record { properties = []; defines = []; shows = []; colours = []; conditions = [] }
+
+-- ---- what a line adds
+
+pub data Entry : Type 0 where
+  property : Declared → Entry
+  define : Define → Entry
+  show : Expression → Entry
+  colour : Expression → Entry
+  condition : Condition → Entry
+
+abbrev pub with : Style → Entry → Style
+with s (property d) = record { properties = s .properties ++ d ∷ []; defines = s .defines; shows = s .shows; colours = s .colours; conditions = s .conditions }
+with s (define d) = record { properties = s .properties; defines = s .defines ++ d ∷ []; shows = s .shows; colours = s .colours; conditions = s .conditions }
+with s (show e) = record { properties = s .properties; defines = s .defines; shows = s .shows ++ e ∷ []; colours = s .colours; conditions = s .conditions }
+with s (colour e) = record { properties = s .properties; defines = s .defines; shows = s .shows; colours = s .colours ++ e ∷ []; conditions = s .conditions }
+with s (condition c) = record { properties = s .properties; defines = s .defines; shows = s .shows; colours = s .colours; conditions = s .conditions ++ c ∷ [] }
+
+-- ---- which line may stand behind so many others
+
+-- "All `prop` lines come first, then all `define` lines, then the other style lines"; "32 properties; 16 defines; 16 `cond` lines"; "At most one `show` and one `color`; `color` and `cond` don't stand together."
+unfoldable pub admits : Line → ℕ → ℕ → ℕ → ℕ → ℕ → Bool
+admits line.Prop properties defines shows colours conditions = ltb properties 32 && (eqb defines 0 && (eqb shows 0 && (eqb colours 0 && eqb conditions 0)))
+admits line.Define properties defines shows colours conditions = ltb defines 16 && (eqb shows 0 && (eqb colours 0 && eqb conditions 0))
+admits line.Show properties defines shows colours conditions = ltb shows 1
+admits line.Color properties defines shows colours conditions = ltb colours 1 && eqb conditions 0
+admits line.Cond properties defines shows colours conditions = ltb conditions 16 && eqb colours 0
+admits line.Feat properties defines shows colours conditions = false
+admits line.Unknown properties defines shows colours conditions = false
+
+abbrev pub admitsTo : Style → Line → Bool
+admitsTo s l = admits l (length (s .properties)) (length (s .defines)) (length (s .shows)) (length (s .colours)) (length (s .conditions))
+
+-- ---- names
+
+-- whether a name is one of some
+abbrev pub isAmong : List (List ℕ) → List ℕ → Bool
+isAmong [] x = false
+isAmong (n ∷ ns) x = cond (same x n) true (isAmong ns x)
+
+abbrev pub nameOf : Declared → List ℕ
+nameOf d = d .name
+
+abbrev pub defineName : Define → List ℕ
+defineName d = d .name
+
+abbrev pub propertyIn : List Declared → List ℕ → Property
+propertyIn [] x = undeclared
+propertyIn (d ∷ ds) x = cond (same x (d .name)) (d .property) (propertyIn ds x)
+
+-- the kinds of a define's expression, or what its name stands for if it is none
+abbrev pub definedIn : List Define → List ℕ → Kinds → Kinds
+definedIn [] x other = other
+definedIn (d ∷ ds) x other = cond (same x (d .name)) (d .expression .kinds) (definedIn ds x other)
+
+-- "In `show`, `color` and `cond` a define hides a property of its name; inside a define every name is a property."
+abbrev pub kindsIn : Scope → Style → List ℕ → Kinds
+kindsIn scope.Define s x = propertyKinds (propertyIn (s .properties) x)
+kindsIn scope.Style s x = definedIn (s .defines) x (propertyKinds (propertyIn (s .properties) x))
