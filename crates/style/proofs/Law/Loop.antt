@@ -20,7 +20,7 @@ use Rattle.text.proofs.Law.Parts.{lines-from, end-within}
 use Rattle.text.proofs.Slices.{put-length}
 use Rattle.style.specs.Style.{Expression, Define, Condition, Style, empty, with, admits}
 use Rattle.style.specs.Line.{Said, refused, adds, lineSaid}
-use Rattle.style.specs.Head.{Headed, refusedAt, gives, onLine, headFrom, headOf, answered, refusal, checkedOf}
+use Rattle.style.specs.Head.{Headed, refusedAt, gives, onLine, headFrom, headOf, answered, refusal, checkedOf, roomAfter}
 use Rattle.style.specs.Tables.{FreeRow, Held, Expressed, Holds, Compiles}
 use Rattle.style.specs.Inner.{Says, Admitted, ReadBy, Fits, Within, isRefused, numberIn, placeIn, freshTables, withEntry, LinesBy}
 use Rattle.style.specs.declared.check.Checked.{Checked}
@@ -252,3 +252,13 @@ module _ (head room : List ℕ) where
         untouched = λ l. absurd (omega (arith, l, h));
         kept = λ s g x. by .kept s x;
       }
+
+-- ---- the room after a check
+
+pub zeroed : (room after v : List ℕ) → length after ≡ length room → 32768 ≤ length after → v ≡ replicate (length after) 0 → v ≡ roomAfter room
+zeroed room after v n h e = e ∙ ap (λ (m : ℕ). replicate m 0) n ∙ sym (passed _ (le-ltb (length room) 32768 (omega (arith, n, h))) refl)
+
+pub left-alone : (head room after : List ℕ) (r : Compiled) → Compiles head room after r → length after ≡ length room → length after < 32768 → after ≡ roomAfter room
+left-alone head room after r c n h =
+    let small : length room < 32768 = omega (arith, n, h) in
+    c .untouched small ∙ sym (taken _ (lt-ltb (length room) 32768 small) refl)

@@ -1,0 +1,50 @@
+use borrow.Author.Needs.{needs}
+use Rattle.style.proofs.head.compile.Statement.{statement}
+use Rattle.style.proofs.head.compile.Tie as tie
+use Prim.Native.Nat.{_-_}
+use Rattle.style.specs.Head.{refusal}
+use Rattle.style.proofs.Law.Loop.{too-small, too-long, all-lines}
+
+refusal-requires : tie.Need-refusal-requires
+refusal-requires c κs = search needs
+
+fresh-requires : tie.Need-fresh-requires
+fresh-requires c κs = search needs
+
+returns : tie.Need-returns
+returns c =
+    too-small _ _ _ _ (c .before .before .if1 .taken) (c .before .refusal .ensures)
+
+refusal-requires-2 : tie.Need-refusal-requires-2
+refusal-requires-2 c κs = search needs
+
+fresh-requires-2 : tie.Need-fresh-requires-2
+fresh-requires-2 c κs = search needs
+
+returns-2 : tie.Need-returns-2
+returns-2 c =
+    too-long _ _ _ _ (c .before .before .before .if1 .left) (c .before .before .if2 .taken) (c .before .refusal2 .ensures)
+
+read-lines-requires : tie.Need-read-lines-requires
+read-lines-requires c κs = search needs
+
+same-length : tie.Need-same-length
+same-length c = search needs
+
+returns-3 : tie.Need-returns-3
+returns-3 c =
+    all-lines _ _ _ _ (c .before .before .before .before .before .if1 .left) (c .before .before .before .before .if2 .left) (c .before .before .read-lines .ensures)
+
+pub compile-spec : {M : Type 1} → statement M
+compile-spec =
+    tie.close
+    (tie.spec
+    refusal-requires
+    fresh-requires
+    returns
+    refusal-requires-2
+    fresh-requires-2
+    returns-2
+    read-lines-requires
+    same-length
+    returns-3)
