@@ -1,9 +1,10 @@
 // The check of a head.
 ghost use mathlib.Core.Path.{_≡_};
-ghost use lib.ListN.{length, replicate};
+ghost use lib.ListN.{length};
 ghost use Rattle.style.specs.Head.{checkedOf, roomAfter};
 use crate::head::ROOM_SIZE;
 use crate::head::compile;
+use syntax::judge::clear;
 
 // Page 01's number, line and place.
 pub struct Refusal {
@@ -15,16 +16,6 @@ pub struct Refusal {
 pub enum Checked {
     Accepted,
     Refused(Refusal),
-}
-
-pub(crate) fn clear(room: &mut [u16])
-    ensures { λ _. ⌜ now (room .exit) ≡ replicate (length (now (room .entry))) 0 ⌝ }
-{
-    let mut i = 0;
-    while i < room.len() {
-        room[i] = 0;
-        i += 1;
-    }
 }
 
 // Whether a head is accepted, or its first refusal. The room is zero afterwards; one that is too small

@@ -71,7 +71,8 @@ fn size_judgement(text: &[u8], slots: &mut [u16]) -> Judgement
     }
 }
 
-fn clear(slots: &mut [u16])
+// Makes slots zero.
+pub fn clear(slots: &mut [u16])
     ensures { λ _. ⌜ now (slots .exit) ≡ replicate (length (now (slots .entry))) 0 ⌝ }
 {
     let mut i = 0;

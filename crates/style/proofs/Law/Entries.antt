@@ -368,6 +368,30 @@ module _ (head room : List ℕ) (at end : ℕ) (u : List ℕ) (order : at ≤ en
         held-before scope.Style t t′ (19 + 2 * k) (x .colour) (λ i. numberOf scope.Style head (a i) (b i)) (z .1) (y .1)))
         (h .expressed .conditions)
 
+    -- `show` and `color` stand in rows of their own
+    module _ (row p q r : ℕ) (low : 16 ≤ row) (high : row ≤ 17) where
+      abbrev single : Tables
+      single = withExpression t row (at + p) (at + q) r
+
+      single-kept : (i : ℕ) → (i ≡ row → ⊥) → Kept t single i
+      single-kept = kept-other t row (at + p) (at + q) r
+
+      single-sized : (n : Counts) → Sized (withCounts single n)
+      single-sized n = recounted single n (sized-expression t row (at + p) (at + q) r (h .sized))
+
+      single-defines : Each (λ i (d : Define). Held scope.Define head after single (end + 1) i (d .expression)) 0 (s .defines)
+      unfolding withExpression
+      single-defines = defines-before single refl refl (λ i l. single-kept i (λ e. omega (arith, e, l, low)))
+
+      single-conditions : Each (Conditioned after single (end + 1)) 0 (s .conditions)
+      unfolding withExpression
+      single-conditions =
+          conditions-before single refl refl (λ i l. (single-kept (18 + 2 * i) (λ e. omega (arith, e, high)), single-kept (19 + 2 * i) (λ e. omega (arith, e, high))))
+
+      single-held : (e : Expression) → Laid (numberOf scope.Style head (t .starts) (t .ends)) (slice at end head) u p q r e → Held scope.Style head after single (end + 1) row e
+      unfolding withExpression
+      single-held e = held-here scope.Style t single row p q r e refl (set-there t row (at + p) (at + q) r (h .sized) (omega (arith, high)))
+
     show-held : (p q r : ℕ) (e : Expression) → admits word.Show (c .properties) (c .defines) (c .shows) (c .colours) (c .conditions) ≡ true →
         Laid (numberOf scope.Style head (t .starts) (t .ends)) (slice at end head) u p q r e →
         Holds head after
@@ -376,26 +400,24 @@ module _ (head room : List ℕ) (at end : ℕ) (u : List ℕ) (order : at ≤ en
     unfolding withCounts withExpression admits
     show-held p q r e ok laid =
         let none : c .shows < 1 = ltb-true _ _ ok in
-        let t′ = withExpression t 16 (at + p) (at + q) r in
         let m = counts .shows in
         let l = length-more (s .shows) e in
-        let kept : (i : ℕ) → (i ≡ 16 → ⊥) → Kept t t′ i = kept-other t 16 (at + p) (at + q) r in
         record {
           counted = record { properties = counts .properties; defines = counts .defines; shows = omega (arith, m, l); colours = counts .colours; conditions = counts .conditions };
-          sized = recounted t′ _ (sized-expression t 16 (at + p) (at + q) r (h .sized));
+          sized = single-sized 16 p q r (omega arith) (omega arith) _;
           named = h .named;
           expressed =
             record {
               few-shows = omega (arith, l, m, none);
               few-colours = h .expressed .few-colours;
               few-conditions = h .expressed .few-conditions;
-              defines = defines-before t′ refl refl (λ i low. kept i (λ e. omega (arith, e, low)));
+              defines = single-defines 16 p q r (omega arith) (omega arith);
               shows =
-                each-more (λ i (e : Expression). Held scope.Style head after t′ (end + 1) (16 + i) e) 0 0 (s .shows) e (omega (arith, m, none))
+                each-more (λ i (e : Expression). Held scope.Style head after (single 16 p q r (omega arith) (omega arith)) (end + 1) (16 + i) e) 0 0 (s .shows) e (omega (arith, m, none))
                 (each-none _ 0 (s .shows) (omega (arith, m, none)))
-                (held-here scope.Style t t′ 16 p q r e refl (set-there t 16 (at + p) (at + q) r (h .sized) (omega arith)) laid);
-              colours = colours-before t′ refl refl (kept 17 (λ e. omega (arith, e)));
-              conditions = conditions-before t′ refl refl (λ i low. (kept (18 + 2 * i) (λ e. omega (arith, e)), kept (19 + 2 * i) (λ e. omega (arith, e))));
+                (single-held 16 p q r (omega arith) (omega arith) e laid);
+              colours = colours-before (single 16 p q r (omega arith) (omega arith)) refl refl (single-kept 16 p q r (omega arith) (omega arith) 17 (λ e. omega (arith, e)));
+              conditions = single-conditions 16 p q r (omega arith) (omega arith);
             };
         }
 
@@ -407,26 +429,24 @@ module _ (head room : List ℕ) (at end : ℕ) (u : List ℕ) (order : at ≤ en
     unfolding withCounts withExpression admits
     colour-held p q r e ok laid =
         let none : c .colours < 1 = ltb-true _ _ (both (ltb (c .colours) 1) _ ok .0) in
-        let t′ = withExpression t 17 (at + p) (at + q) r in
         let m = counts .colours in
         let l = length-more (s .colours) e in
-        let kept : (i : ℕ) → (i ≡ 17 → ⊥) → Kept t t′ i = kept-other t 17 (at + p) (at + q) r in
         record {
           counted = record { properties = counts .properties; defines = counts .defines; shows = counts .shows; colours = omega (arith, m, l); conditions = counts .conditions };
-          sized = recounted t′ _ (sized-expression t 17 (at + p) (at + q) r (h .sized));
+          sized = single-sized 17 p q r (omega arith) (omega arith) _;
           named = h .named;
           expressed =
             record {
               few-shows = h .expressed .few-shows;
               few-colours = omega (arith, l, m, none);
               few-conditions = h .expressed .few-conditions;
-              defines = defines-before t′ refl refl (λ i low. kept i (λ e. omega (arith, e, low)));
-              shows = shows-before t′ refl refl (kept 16 (λ e. omega (arith, e)));
+              defines = single-defines 17 p q r (omega arith) (omega arith);
+              shows = shows-before (single 17 p q r (omega arith) (omega arith)) refl refl (single-kept 17 p q r (omega arith) (omega arith) 16 (λ e. omega (arith, e)));
               colours =
-                each-more (λ i (e : Expression). Held scope.Style head after t′ (end + 1) (17 + i) e) 0 0 (s .colours) e (omega (arith, m, none))
+                each-more (λ i (e : Expression). Held scope.Style head after (single 17 p q r (omega arith) (omega arith)) (end + 1) (17 + i) e) 0 0 (s .colours) e (omega (arith, m, none))
                 (each-none _ 0 (s .colours) (omega (arith, m, none)))
-                (held-here scope.Style t t′ 17 p q r e refl (set-there t 17 (at + p) (at + q) r (h .sized) (omega arith)) laid);
-              conditions = conditions-before t′ refl refl (λ i low. (kept (18 + 2 * i) (λ e. omega (arith, e)), kept (19 + 2 * i) (λ e. omega (arith, e))));
+                (single-held 17 p q r (omega arith) (omega arith) e laid);
+              conditions = single-conditions 17 p q r (omega arith) (omega arith);
             };
         }
 

@@ -1,0 +1,42 @@
+-- `head_cases::feature_case::with_text` is safe: the part of the room that it lends is as long as asked.
+-- Assumes nothing.
+use mathlib.Core.Path.{sym}
+use lib.Seq.{length-take-le}
+use native.Mathlib.Omega.{arith}
+use borrow.Author.Needs.{needs}
+use Rattle.head_cases.proofs.feature_case.with_text.Statement.{statement}
+use Rattle.head_cases.proofs.feature_case.with_text.Tie as tie
+
+number-requires : tie.Need-number-requires
+number-requires c κs = search needs
+
+array-borrow-prefix-text : tie.Need-array-borrow-prefix-text
+array-borrow-prefix-text c = search needs
+
+slice-aggregate-text-agrees : tie.Need-slice-aggregate-text-agrees
+slice-aggregate-text-agrees c =
+    sym (length-take-le _ _ (omega arith))
+
+text-agrees-requires : tie.Need-text-agrees-requires
+text-agrees-requires c κs = search needs
+
+returns : tie.Need-returns
+returns c = search needs
+
+malformed-requires : tie.Need-malformed-requires
+malformed-requires c κs = search needs
+
+returns-2 : tie.Need-returns-2
+returns-2 c = search needs
+
+pub with-text-spec : {M : Type 1} → statement M
+with-text-spec =
+    tie.close
+    (tie.spec
+    number-requires
+    array-borrow-prefix-text
+    slice-aggregate-text-agrees
+    text-agrees-requires
+    returns
+    malformed-requires
+    returns-2)
