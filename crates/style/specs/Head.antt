@@ -7,7 +7,6 @@ use lib.ListN.{length, replicate}
 use Rattle.text.specs.Parts.{lines}
 use Rattle.style.specs.Style.{Style, Entry, empty, with}
 use Rattle.style.specs.Line.{Said, refused, adds, lineSaid}
-use Rattle.style.specs.declared.check.Refusal.{Refusal}
 use Rattle.style.specs.declared.check.Checked.{Checked}
 use Rattle.style.specs.declared.check.Checked.the-variants.{Accepted, Refused}
 

@@ -16,7 +16,7 @@ use Rattle.checker.specs.declared.name.Scope.{Scope}
 use Rattle.checker.specs.declared.name.Scope.the-variants as scope
 use Rattle.checker.specs.declared.check.Wanted.{Wanted}
 use Rattle.checker.specs.declared.check.Wanted.the-variants as wanted
-use Rattle.text.specs.Parts.{fields, fieldStart}
+use Rattle.text.specs.Parts.{fieldStart}
 use Rattle.text.specs.Parts as parts
 use Rattle.text.specs.Name.{isName}
 use Rattle.text.specs.Slice.{putBack}

@@ -136,14 +136,7 @@ fn with_define(
     with_expression(named, row, at + from, at + to, root)
 }
 
-fn with_single(
-    tables: Tables,
-    row: usize,
-    at: usize,
-    from: usize,
-    to: usize,
-    root: usize,
-) -> Tables
+fn with_single(tables: Tables, row: usize, at: usize, from: usize, to: usize, root: usize) -> Tables
     requires { ⌜ (row < 50) × (at ≤ 32768) × (from ≤ 32768 - at) × (to ≤ 32768 - at) ⌝ }
     ensures { λ r. ⌜ r ≡ withExpression tables row (at + from) (at + to) root ⌝ }
 {

@@ -1,7 +1,5 @@
 // One line of a head: 8 first, and then its expressions.
 ghost use mathlib.Core.Path.{_≡_};
-ghost use mathlib.Core.Bool.{Bool};
-ghost use Prim.Native.Nat.{_≤_};
 ghost use lib.ListN.{length};
 ghost use Rattle.text.specs.Parts.{fields};
 ghost use Rattle.style.specs.Style.{admits};

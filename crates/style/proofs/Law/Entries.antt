@@ -1,8 +1,8 @@
 -- The tables with a line's entry hold the style with what the line adds.
-use mathlib.Core.Path.{_≡_, refl, sym, _∙_, ap, ap₂, subst}
+use mathlib.Core.Path.{_≡_, refl, sym, _∙_, ap, subst}
 use mathlib.Core.Bool.{Bool, true, false, _&&_, false≢true}
-use mathlib.Core.List.{List, [], _∷_, _++_}
-use Prim.Native.Nat.{ℕ, suc, _+_, _-_, _*_, _<_, _≤_}
+use mathlib.Core.List.{List, [], _∷_}
+use Prim.Native.Nat.{ℕ, _+_, _-_, _*_, _<_, _≤_}
 use native.Mathlib.Omega.{arith}
 use borrow.Author.Tests.{ltb-true, eqb-true}
 use lib.Dec.{eqb, ltb}
@@ -20,8 +20,8 @@ use Rattle.text.specs.declared.word.Line.the-variants as word
 use Rattle.text.proofs.Slices.{slice-slice, put-left, put-there}
 use Rattle.style.specs.Style.{Declared, Expression, Define, Condition, Style, property, define, show, colour, condition, with, admits}
 use Rattle.style.specs.Style as style
-use Rattle.style.specs.Tables.{Each, NameRow, Row, FreeRow, Free, Laid, Held, Counted, Sized, Named, Expressed, Holds}
-use Rattle.style.specs.Inner.{isRefused, NameLies, Says, Of, Admitted, withName, withExpression, withCounts, countedWith, withRows, withEntry}
+use Rattle.style.specs.Tables.{Each, Row, Free, Laid, Held, Counted, Sized, Holds}
+use Rattle.style.specs.Inner.{isRefused, NameLies, Says, Of, Admitted, withName, withExpression, withCounts, withEntry}
 use Rattle.style.specs.Line.{Said, adds}
 use Rattle.style.specs.declared.entry.Entry.{Entry}
 use Rattle.style.specs.declared.entry.Entry.the-variants as entry
@@ -32,16 +32,16 @@ use Rattle.style.proofs.Law.Rows.{each-map, each-more, each-none, lengt
 -- ---- which lines may stand there
 
 -- what a line's admission says of the counts before it
-record Bare (c : Counts) : Type 0 where
-  shows : c .shows ≡ 0
-  colours : c .colours ≡ 0
-  conditions : c .conditions ≡ 0
+pub record Bare (c : Counts) : Type 0 where
+  pub shows : c .shows ≡ 0
+  pub colours : c .colours ≡ 0
+  pub conditions : c .conditions ≡ 0
 
 pub both : (a b : Bool) → a && b ≡ true → (a ≡ true) × (b ≡ true)
 both true b h = (refl, h)
 both false b h = (h, absurd (false≢true h))
 
-bare : (c : Counts) → (eqb (c .shows) 0 && (eqb (c .colours) 0 && eqb (c .conditions) 0)) ≡ true → Bare c
+pub bare : (c : Counts) → (eqb (c .shows) 0 && (eqb (c .colours) 0 && eqb (c .conditions) 0)) ≡ true → Bare c
 bare c h =
     let a = both (eqb (c .shows) 0) _ h in
     let b = both (eqb (c .colours) 0) _ (a .1) in
@@ -199,23 +199,25 @@ module _ (head room : List ℕ) (at end : ℕ) (u : List ℕ) (order : at ≤ en
 
   held-before : (c : Scope) (t t′ : Tables) (row : ℕ) (e : Expression) → numberOf c head (t′ .starts) (t′ .ends) ≡ numberOf c head (t .starts) (t .ends) → Kept t t′ row →
       Held c head room t at row e → Held c head after t′ (end + 1) row e
-  held-before c t t′ row e n k h =
-      (omega (arith, k .1, h .0, order),
-          subst (λ (number : List ℕ → ℕ). Laid number head after (getD (t′ .froms) row 0) (getD (t′ .tos) row 0) (getD (t′ .roots) row 0) e) (sym n)
-          (subst (λ (p : ℕ). Laid (numberOf c head (t .starts) (t .ends)) head after p (getD (t′ .tos) row 0) (getD (t′ .roots) row 0) e) (sym (k .0))
-          (subst (λ (q : ℕ). Laid (numberOf c head (t .starts) (t .ends)) head after (getD (t .froms) row 0) q (getD (t′ .roots) row 0) e) (sym (k .1))
-          (subst (λ (r : ℕ). Laid (numberOf c head (t .starts) (t .ends)) head after (getD (t .froms) row 0) (getD (t .tos) row 0) r e) (sym (k .2))
-          (laid-before (numberOf c head (t .starts) (t .ends)) (getD (t .froms) row 0) (getD (t .tos) row 0) (getD (t .roots) row 0) e (h .0) (h .1))))))
+  held-before c t t′ row e n k h = (
+    omega (arith, k .1, h .0, order),
+    subst (λ (number : List ℕ → ℕ). Laid number head after (getD (t′ .froms) row 0) (getD (t′ .tos) row 0) (getD (t′ .roots) row 0) e) (sym n)
+        (subst (λ (p : ℕ). Laid (numberOf c head (t .starts) (t .ends)) head after p (getD (t′ .tos) row 0) (getD (t′ .roots) row 0) e) (sym (k .0))
+        (subst (λ (q : ℕ). Laid (numberOf c head (t .starts) (t .ends)) head after (getD (t .froms) row 0) q (getD (t′ .roots) row 0) e) (sym (k .1))
+        (subst (λ (r : ℕ). Laid (numberOf c head (t .starts) (t .ends)) head after (getD (t .froms) row 0) (getD (t .tos) row 0) r e) (sym (k .2))
+        (laid-before (numberOf c head (t .starts) (t .ends)) (getD (t .froms) row 0) (getD (t .tos) row 0) (getD (t .roots) row 0) e (h .0) (h .1))))),
+  )
 
   held-here : (c : Scope) (t t′ : Tables) (row p q r : ℕ) (e : Expression) → numberOf c head (t′ .starts) (t′ .ends) ≡ numberOf c head (t .starts) (t .ends) → Set t′ row (at + p) (at + q) r →
       Laid (numberOf c head (t .starts) (t .ends)) (slice at end head) u p q r e → Held c head after t′ (end + 1) row e
-  held-here c t t′ row p q r e n k l =
-      (omega (arith, k .to, l .inside, line-length, order),
-          subst (λ (number : List ℕ → ℕ). Laid number head after (getD (t′ .froms) row 0) (getD (t′ .tos) row 0) (getD (t′ .roots) row 0) e) (sym n)
-          (subst (λ (x : ℕ). Laid (numberOf c head (t .starts) (t .ends)) head after x (getD (t′ .tos) row 0) (getD (t′ .roots) row 0) e) (sym (k .from))
-          (subst (λ (x : ℕ). Laid (numberOf c head (t .starts) (t .ends)) head after (at + p) x (getD (t′ .roots) row 0) e) (sym (k .to))
-          (subst (λ (x : ℕ). Laid (numberOf c head (t .starts) (t .ends)) head after (at + p) (at + q) x e) (sym (k .root))
-          (laid-here (numberOf c head (t .starts) (t .ends)) p q r e l)))))
+  held-here c t t′ row p q r e n k l = (
+    omega (arith, k .to, l .inside, line-length, order),
+    subst (λ (number : List ℕ → ℕ). Laid number head after (getD (t′ .froms) row 0) (getD (t′ .tos) row 0) (getD (t′ .roots) row 0) e) (sym n)
+        (subst (λ (x : ℕ). Laid (numberOf c head (t .starts) (t .ends)) head after x (getD (t′ .tos) row 0) (getD (t′ .roots) row 0) e) (sym (k .from))
+        (subst (λ (x : ℕ). Laid (numberOf c head (t .starts) (t .ends)) head after (at + p) x (getD (t′ .roots) row 0) e) (sym (k .to))
+        (subst (λ (x : ℕ). Laid (numberOf c head (t .starts) (t .ends)) head after (at + p) (at + q) x e) (sym (k .root))
+        (laid-here (numberOf c head (t .starts) (t .ends)) p q r e l)))),
+  )
 
   name-here : (a b : ℕ) (x : List ℕ) → NameLies (slice at end head) a b x → slice (at + a) (at + b) head ≡ x
   name-here a b x n = sym (slice-slice head at end a b (omega (arith, n .inside, line-length, order))) ∙ n .is
@@ -248,29 +250,29 @@ module _ (head room : List ℕ) (at end : ℕ) (u : List ℕ) (order : at ≤ en
           counted = record { properties = omega (arith, m, l); defines = counts .defines; shows = counts .shows; colours = counts .colours; conditions = counts .conditions };
           sized = recounted t′ _ (sized-name t (c .properties) (at + a) (at + b) byte (h .sized));
           named =
-            record {
-              few-properties = omega (arith, l, m, few);
-              few-defines = h .named .few-defines;
-              properties =
-                each-more (λ i (d : Declared). Row head t′ i (d .name) (propertyKinds (d .property))) 0 (c .properties) (s .properties) d (omega (arith, m))
-                (each-map (λ i (d : Declared). Row head t i (d .name) (propertyKinds (d .property))) (λ i (d : Declared). Row head t′ i (d .name) (propertyKinds (d .property))) 0 (s .properties)
-                (λ k d low high r. row-stays head t t′ k (d .name) (propertyKinds (d .property)) (stays k (λ e. omega (arith, e, high, m))) r)
-                (h .named .properties))
-                (row-new head t (c .properties) (at + a) (at + b) byte (d .name) (propertyKinds (d .property)) (h .sized) (omega (arith, few)) (name-here a b (d .name) n) (n .right) u);
-              no-properties = λ i low high. free-stays head t t′ i (stays i (λ e. omega (arith, e, low, l, m))) (h .named .no-properties i (omega (arith, low, l)) high);
-              defines = each-none (λ i (d : Define). Row head t′ (32 + i) (d .name) (d .expression .kinds)) 0 (s .defines) (omega (arith, counts .defines, none));
-              no-defines = λ i low high. free-stays head t t′ (32 + i) (stays (32 + i) (λ e. omega (arith, e, few))) (h .named .no-defines i low high);
-            };
+              record {
+                few-properties = omega (arith, l, m, few);
+                few-defines = h .named .few-defines;
+                properties =
+                    each-more (λ i (d : Declared). Row head t′ i (d .name) (propertyKinds (d .property))) 0 (c .properties) (s .properties) d (omega (arith, m))
+                    (each-map (λ i (d : Declared). Row head t i (d .name) (propertyKinds (d .property))) (λ i (d : Declared). Row head t′ i (d .name) (propertyKinds (d .property))) 0 (s .properties)
+                    (λ k d low high r. row-stays head t t′ k (d .name) (propertyKinds (d .property)) (stays k (λ e. omega (arith, e, high, m))) r)
+                    (h .named .properties))
+                    (row-new head t (c .properties) (at + a) (at + b) byte (d .name) (propertyKinds (d .property)) (h .sized) (omega (arith, few)) (name-here a b (d .name) n) (n .right) u);
+                no-properties = λ i low high. free-stays head t t′ i (stays i (λ e. omega (arith, e, low, l, m))) (h .named .no-properties i (omega (arith, low, l)) high);
+                defines = each-none (λ i (d : Define). Row head t′ (32 + i) (d .name) (d .expression .kinds)) 0 (s .defines) (omega (arith, counts .defines, none));
+                no-defines = λ i low high. free-stays head t t′ (32 + i) (stays (32 + i) (λ e. omega (arith, e, few))) (h .named .no-defines i low high);
+              };
           expressed =
-            record {
-              few-shows = h .expressed .few-shows;
-              few-colours = h .expressed .few-colours;
-              few-conditions = h .expressed .few-conditions;
-              defines = each-none _ 0 (s .defines) (omega (arith, counts .defines, none));
-              shows = each-none _ 0 (s .shows) (omega (arith, counts .shows, z .shows));
-              colours = each-none _ 0 (s .colours) (omega (arith, counts .colours, z .colours));
-              conditions = each-none _ 0 (s .conditions) (omega (arith, counts .conditions, z .conditions));
-            };
+              record {
+                few-shows = h .expressed .few-shows;
+                few-colours = h .expressed .few-colours;
+                few-conditions = h .expressed .few-conditions;
+                defines = each-none _ 0 (s .defines) (omega (arith, counts .defines, none));
+                shows = each-none _ 0 (s .shows) (omega (arith, counts .shows, z .shows));
+                colours = each-none _ 0 (s .colours) (omega (arith, counts .colours, z .colours));
+                conditions = each-none _ 0 (s .conditions) (omega (arith, counts .conditions, z .conditions));
+              };
         }
 
     define-held : (a b p q r byte : ℕ) (d : Define) → admits word.Define (c .properties) (c .defines) (c .shows) (c .colours) (c .conditions) ≡ true →
@@ -296,39 +298,39 @@ module _ (head room : List ℕ) (at end : ℕ) (u : List ℕ) (order : at ≤ en
           counted = record { properties = counts .properties; defines = omega (arith, m, l); shows = counts .shows; colours = counts .colours; conditions = counts .conditions };
           sized = recounted t′ _ (sized-expression t₁ (c .defines) (at + p) (at + q) r (sized-name t row (at + a) (at + b) byte (h .sized)));
           named =
-            record {
-              few-properties = h .named .few-properties;
-              few-defines = omega (arith, l, m, few);
-              properties =
-                each-map (λ i (d : Declared). Row head t i (d .name) (propertyKinds (d .property))) (λ i (d : Declared). Row head t₁ i (d .name) (propertyKinds (d .property))) 0 (s .properties)
-                (λ k d low high y. row-stays head t t₁ k (d .name) (propertyKinds (d .property)) (stays k (λ e. omega (arith, e, high, h .named .few-properties))) y)
-                (h .named .properties);
-              no-properties = λ i low high. free-stays head t t₁ i (stays i (λ e. omega (arith, e, high))) (h .named .no-properties i low high);
-              defines =
-                each-more (λ i (d : Define). Row head t₁ (32 + i) (d .name) (d .expression .kinds)) 0 (c .defines) (s .defines) d (omega (arith, m))
-                (each-map (λ i (d : Define). Row head t (32 + i) (d .name) (d .expression .kinds)) (λ i (d : Define). Row head t₁ (32 + i) (d .name) (d .expression .kinds)) 0 (s .defines)
-                (λ k d low high y. row-stays head t t₁ (32 + k) (d .name) (d .expression .kinds) (stays (32 + k) (λ e. omega (arith, e, high, m))) y)
-                (h .named .defines))
-                (row-new head t row (at + a) (at + b) byte (d .name) (d .expression .kinds) (h .sized) (omega (arith, few)) (name-here a b (d .name) n) (n .right) u);
-              no-defines = λ i low high. free-stays head t t₁ (32 + i) (stays (32 + i) (λ e. omega (arith, e, low, l, m))) (h .named .no-defines i (omega (arith, low, l)) high);
-            };
+              record {
+                few-properties = h .named .few-properties;
+                few-defines = omega (arith, l, m, few);
+                properties =
+                    each-map (λ i (d : Declared). Row head t i (d .name) (propertyKinds (d .property))) (λ i (d : Declared). Row head t₁ i (d .name) (propertyKinds (d .property))) 0 (s .properties)
+                    (λ k d low high y. row-stays head t t₁ k (d .name) (propertyKinds (d .property)) (stays k (λ e. omega (arith, e, high, h .named .few-properties))) y)
+                    (h .named .properties);
+                no-properties = λ i low high. free-stays head t t₁ i (stays i (λ e. omega (arith, e, high))) (h .named .no-properties i low high);
+                defines =
+                    each-more (λ i (d : Define). Row head t₁ (32 + i) (d .name) (d .expression .kinds)) 0 (c .defines) (s .defines) d (omega (arith, m))
+                    (each-map (λ i (d : Define). Row head t (32 + i) (d .name) (d .expression .kinds)) (λ i (d : Define). Row head t₁ (32 + i) (d .name) (d .expression .kinds)) 0 (s .defines)
+                    (λ k d low high y. row-stays head t t₁ (32 + k) (d .name) (d .expression .kinds) (stays (32 + k) (λ e. omega (arith, e, high, m))) y)
+                    (h .named .defines))
+                    (row-new head t row (at + a) (at + b) byte (d .name) (d .expression .kinds) (h .sized) (omega (arith, few)) (name-here a b (d .name) n) (n .right) u);
+                no-defines = λ i low high. free-stays head t t₁ (32 + i) (stays (32 + i) (λ e. omega (arith, e, low, l, m))) (h .named .no-defines i (omega (arith, low, l)) high);
+              };
           expressed =
-            record {
-              few-shows = h .expressed .few-shows;
-              few-colours = h .expressed .few-colours;
-              few-conditions = h .expressed .few-conditions;
-              defines =
-                each-more (λ i (d : Define). Held scope.Define head after t′ (end + 1) i (d .expression)) 0 (c .defines) (s .defines) d (omega (arith, m))
-                (each-map (λ i (d : Define). Held scope.Define head room t at i (d .expression)) (λ i (d : Define). Held scope.Define head after t′ (end + 1) i (d .expression)) 0 (s .defines)
-                (λ k d low high y. held-before scope.Define t t′ k (d .expression) numbers (kept-other t₁ (c .defines) (at + p) (at + q) r k (λ e. omega (arith, e, high, m))) y)
-                (h .expressed .defines))
-                (held-here scope.Define t t′ (c .defines) p q r (d .expression) numbers
-                (set-there t₁ (c .defines) (at + p) (at + q) r (sized-name t row (at + a) (at + b) byte (h .sized)) (omega (arith, few)))
-                laid);
-              shows = each-none _ 0 (s .shows) (omega (arith, counts .shows, z .shows));
-              colours = each-none _ 0 (s .colours) (omega (arith, counts .colours, z .colours));
-              conditions = each-none _ 0 (s .conditions) (omega (arith, counts .conditions, z .conditions));
-            };
+              record {
+                few-shows = h .expressed .few-shows;
+                few-colours = h .expressed .few-colours;
+                few-conditions = h .expressed .few-conditions;
+                defines =
+                    each-more (λ i (d : Define). Held scope.Define head after t′ (end + 1) i (d .expression)) 0 (c .defines) (s .defines) d (omega (arith, m))
+                    (each-map (λ i (d : Define). Held scope.Define head room t at i (d .expression)) (λ i (d : Define). Held scope.Define head after t′ (end + 1) i (d .expression)) 0 (s .defines)
+                    (λ k d low high y. held-before scope.Define t t′ k (d .expression) numbers (kept-other t₁ (c .defines) (at + p) (at + q) r k (λ e. omega (arith, e, high, m))) y)
+                    (h .expressed .defines))
+                    (held-here scope.Define t t′ (c .defines) p q r (d .expression) numbers
+                    (set-there t₁ (c .defines) (at + p) (at + q) r (sized-name t row (at + a) (at + b) byte (h .sized)) (omega (arith, few)))
+                    laid);
+                shows = each-none _ 0 (s .shows) (omega (arith, counts .shows, z .shows));
+                colours = each-none _ 0 (s .colours) (omega (arith, counts .colours, z .colours));
+                conditions = each-none _ 0 (s .conditions) (omega (arith, counts .conditions, z .conditions));
+              };
         }
 
     -- the expressions before, where rows of expressions alone are set
@@ -363,9 +365,10 @@ module _ (head room : List ℕ) (at end : ℕ) (u : List ℕ) (order : at ≤ en
     conditions-before t′ a b kept =
         each-map (Conditioned room t at) (Conditioned after t′ (end + 1)) 0 (s .conditions)
         (λ k x low high y.
-        let z = kept k (omega (arith, high)) in
-        (held-before scope.Style t t′ (18 + 2 * k) (x .test) (λ i. numberOf scope.Style head (a i) (b i)) (z .0) (y .0),
-        held-before scope.Style t t′ (19 + 2 * k) (x .colour) (λ i. numberOf scope.Style head (a i) (b i)) (z .1) (y .1)))
+        let z = kept k (omega (arith, high)) in (
+          held-before scope.Style t t′ (18 + 2 * k) (x .test) (λ i. numberOf scope.Style head (a i) (b i)) (z .0) (y .0),
+          held-before scope.Style t t′ (19 + 2 * k) (x .colour) (λ i. numberOf scope.Style head (a i) (b i)) (z .1) (y .1),
+        ))
         (h .expressed .conditions)
 
     -- `show` and `color` stand in rows of their own
@@ -407,18 +410,18 @@ module _ (head room : List ℕ) (at end : ℕ) (u : List ℕ) (order : at ≤ en
           sized = single-sized 16 p q r (omega arith) (omega arith) _;
           named = h .named;
           expressed =
-            record {
-              few-shows = omega (arith, l, m, none);
-              few-colours = h .expressed .few-colours;
-              few-conditions = h .expressed .few-conditions;
-              defines = single-defines 16 p q r (omega arith) (omega arith);
-              shows =
-                each-more (λ i (e : Expression). Held scope.Style head after (single 16 p q r (omega arith) (omega arith)) (end + 1) (16 + i) e) 0 0 (s .shows) e (omega (arith, m, none))
-                (each-none _ 0 (s .shows) (omega (arith, m, none)))
-                (single-held 16 p q r (omega arith) (omega arith) e laid);
-              colours = colours-before (single 16 p q r (omega arith) (omega arith)) refl refl (single-kept 16 p q r (omega arith) (omega arith) 17 (λ e. omega (arith, e)));
-              conditions = single-conditions 16 p q r (omega arith) (omega arith);
-            };
+              record {
+                few-shows = omega (arith, l, m, none);
+                few-colours = h .expressed .few-colours;
+                few-conditions = h .expressed .few-conditions;
+                defines = single-defines 16 p q r (omega arith) (omega arith);
+                shows =
+                    each-more (λ i (e : Expression). Held scope.Style head after (single 16 p q r (omega arith) (omega arith)) (end + 1) (16 + i) e) 0 0 (s .shows) e (omega (arith, m, none))
+                    (each-none _ 0 (s .shows) (omega (arith, m, none)))
+                    (single-held 16 p q r (omega arith) (omega arith) e laid);
+                colours = colours-before (single 16 p q r (omega arith) (omega arith)) refl refl (single-kept 16 p q r (omega arith) (omega arith) 17 (λ e. omega (arith, e)));
+                conditions = single-conditions 16 p q r (omega arith) (omega arith);
+              };
         }
 
     colour-held : (p q r : ℕ) (e : Expression) → admits word.Color (c .properties) (c .defines) (c .shows) (c .colours) (c .conditions) ≡ true →
@@ -436,18 +439,18 @@ module _ (head room : List ℕ) (at end : ℕ) (u : List ℕ) (order : at ≤ en
           sized = single-sized 17 p q r (omega arith) (omega arith) _;
           named = h .named;
           expressed =
-            record {
-              few-shows = h .expressed .few-shows;
-              few-colours = omega (arith, l, m, none);
-              few-conditions = h .expressed .few-conditions;
-              defines = single-defines 17 p q r (omega arith) (omega arith);
-              shows = shows-before (single 17 p q r (omega arith) (omega arith)) refl refl (single-kept 17 p q r (omega arith) (omega arith) 16 (λ e. omega (arith, e)));
-              colours =
-                each-more (λ i (e : Expression). Held scope.Style head after (single 17 p q r (omega arith) (omega arith)) (end + 1) (17 + i) e) 0 0 (s .colours) e (omega (arith, m, none))
-                (each-none _ 0 (s .colours) (omega (arith, m, none)))
-                (single-held 17 p q r (omega arith) (omega arith) e laid);
-              conditions = single-conditions 17 p q r (omega arith) (omega arith);
-            };
+              record {
+                few-shows = h .expressed .few-shows;
+                few-colours = omega (arith, l, m, none);
+                few-conditions = h .expressed .few-conditions;
+                defines = single-defines 17 p q r (omega arith) (omega arith);
+                shows = shows-before (single 17 p q r (omega arith) (omega arith)) refl refl (single-kept 17 p q r (omega arith) (omega arith) 16 (λ e. omega (arith, e)));
+                colours =
+                    each-more (λ i (e : Expression). Held scope.Style head after (single 17 p q r (omega arith) (omega arith)) (end + 1) (17 + i) e) 0 0 (s .colours) e (omega (arith, m, none))
+                    (each-none _ 0 (s .colours) (omega (arith, m, none)))
+                    (single-held 17 p q r (omega arith) (omega arith) e laid);
+                conditions = single-conditions 17 p q r (omega arith) (omega arith);
+              };
         }
 
     condition-held : (p q r p′ q′ r′ : ℕ) (x : Condition) → admits word.Cond (c .properties) (c .defines) (c .shows) (c .colours) (c .conditions) ≡ true →
@@ -478,20 +481,21 @@ module _ (head room : List ℕ) (at end : ℕ) (u : List ℕ) (order : at ≤ en
           sized = recounted t′ _ (sized-expression t₁ (18 + 2 * n + 1) (at + p′) (at + q′) r′ (sized-expression t (18 + 2 * n) (at + p) (at + q) r (h .sized)));
           named = h .named;
           expressed =
-            record {
-              few-shows = h .expressed .few-shows;
-              few-colours = h .expressed .few-colours;
-              few-conditions = omega (arith, l, m, few);
-              defines = defines-before t′ refl refl (λ i low. kept i (λ e. omega (arith, e, low)) (λ e. omega (arith, e, low)));
-              shows = shows-before t′ refl refl (kept 16 (λ e. omega (arith, e)) (λ e. omega (arith, e)));
-              colours = each-none _ 0 (s .colours) (omega (arith, counts .colours, eqb-true (c .colours) 0 (y .1)));
-              conditions =
-                each-more (Conditioned after t′ (end + 1)) 0 n (s .conditions) x (omega (arith, m))
-                (conditions-before t′ refl refl (λ i low.
-                (kept (18 + 2 * i) (λ e. omega (arith, e, low, m)) (λ e. omega (arith, e, low, m)), kept (19 + 2 * i) (λ e. omega (arith, e, low, m)) (λ e. omega (arith, e, low, m)))))
-                (held-here scope.Style t t′ (18 + 2 * n) p q r (x .test) refl first laid,
-                held-here scope.Style t t′ (19 + 2 * n) p′ q′ r′ (x .colour) refl (subst (λ (i : ℕ). Set t′ i (at + p′) (at + q′) r′) next second) laid′);
-            };
+              record {
+                few-shows = h .expressed .few-shows;
+                few-colours = h .expressed .few-colours;
+                few-conditions = omega (arith, l, m, few);
+                defines = defines-before t′ refl refl (λ i low. kept i (λ e. omega (arith, e, low)) (λ e. omega (arith, e, low)));
+                shows = shows-before t′ refl refl (kept 16 (λ e. omega (arith, e)) (λ e. omega (arith, e)));
+                colours = each-none _ 0 (s .colours) (omega (arith, counts .colours, eqb-true (c .colours) 0 (y .1)));
+                conditions =
+                    each-more (Conditioned after t′ (end + 1)) 0 n (s .conditions) x (omega (arith, m))
+                    (conditions-before t′ refl refl (λ i low.
+                    (kept (18 + 2 * i) (λ e. omega (arith, e, low, m)) (λ e. omega (arith, e, low, m)), kept (19 + 2 * i) (λ e. omega (arith, e, low, m)) (λ e. omega (arith, e, low, m))))) (
+                      held-here scope.Style t t′ (18 + 2 * n) p q r (x .test) refl first laid,
+                      held-here scope.Style t t′ (19 + 2 * n) p′ q′ r′ (x .colour) refl (subst (λ (i : ℕ). Set t′ i (at + p′) (at + q′) r′) next second) laid′,
+                    );
+              };
         }
 
     -- ---- an entry that is no refusal

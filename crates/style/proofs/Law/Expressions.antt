@@ -6,7 +6,7 @@ use Prim.Native.Nat.{ℕ, _-_, _<_, _≤_}
 use native.Mathlib.Omega.{arith}
 use borrow.Author.Tests.{le-ltb}
 use lib.ListN.{length, take, drop}
-use lib.Seq.{slice, length-slice}
+use lib.Seq.{length-slice}
 use Rattle.lexer.proofs.Law.Spelling.{slice-is}
 use Rattle.kind.specs.declared.set.Kinds.{Kinds}
 use Rattle.tree.specs.Tree.{Tree, place}
@@ -15,7 +15,7 @@ use Rattle.syntax.specs.Judge as judge
 use Rattle.syntax.specs.declared.judge.Judgement.{Judgement}
 use Rattle.syntax.specs.declared.judge.Judgement.the-variants as judgement
 use Rattle.checker.specs.Name.{nameAt, numberOf, resolvedSlots}
-use Rattle.checker.specs.Property.{setAt, unpackedOf, packedOf}
+use Rattle.checker.specs.Property.{unpackedOf, packedOf}
 use Rattle.checker.specs.Kinds.{kindsOf, resultOf}
 use Rattle.checker.specs.Check.{checkedAt}
 use Rattle.checker.specs.declared.name.Scope.{Scope}
@@ -32,7 +32,7 @@ use Rattle.text.proofs.Law.Parts.{Lies, lies}
 use Rattle.text.proofs.Slices.{put-there}
 use Rattle.style.specs.Expression.{byKinds, bySyntax, expressionOf}
 use Rattle.style.specs.Expression as judged
-use Rattle.style.specs.Inner.{look, Enters, EnteredBy, EntersField, FieldBy}
+use Rattle.style.specs.Inner.{look, Enters, EnteredBy, EntersField}
 use Rattle.style.specs.declared.expression.Entered.{Entered}
 use Rattle.style.specs.declared.expression.Entered.the-variants as entered
 
@@ -136,18 +136,18 @@ module _ (line : List ℕ) (i : ℕ) (there : i < length (fields line)) (p : Par
           text-is = a .text-is ∙ part-text;
           byte-is = a .byte-is;
           laid =
-            record {
-              order = l .order;
-              inside = l .inside;
-              is = slice-is (p .start) (p .end) line ∙ sym (a .text-is);
-              rooted = a .rooted;
-              before = take (p .end - p .start) (drop (p .start) w);
-              size = size ∙ sym bytes ∙ ap length (sym (a .text-is));
-              beside =
-                put-there w (p .start) (p .end) u inside (l .order) (kept ∙ size)
-                ∙ a .beside
-                ∙ ap (λ (t : List ℕ). resolvedSlots (numberOf c head starts ends) t (slotsAfter (take (p .end - p .start) (drop (p .start) w)) t)) (sym (a .text-is));
-            };
+              record {
+                order = l .order;
+                inside = l .inside;
+                is = slice-is (p .start) (p .end) line ∙ sym (a .text-is);
+                rooted = a .rooted;
+                before = take (p .end - p .start) (drop (p .start) w);
+                size = size ∙ sym bytes ∙ ap length (sym (a .text-is));
+                beside =
+                    put-there w (p .start) (p .end) u inside (l .order) (kept ∙ size)
+                    ∙ a .beside
+                    ∙ ap (λ (t : List ℕ). resolvedSlots (numberOf c head starts ends) t (slotsAfter (take (p .end - p .start) (drop (p .start) w)) t)) (sym (a .text-is));
+              };
           starts = l .begins;
           part = u;
           others = refl;

@@ -1,5 +1,5 @@
 -- A ladder of tests: what stands at its end, by what each test says.
-use mathlib.Core.Path.{_≡_, refl, sym}
+use mathlib.Core.Path.{_≡_, sym}
 use mathlib.Core.Bool.{Bool, true, false, cond, false≢true}
 
 pub taken : {A : Type 0} {t : Bool} {a : A} (b : A) {x : A} → t ≡ true → a ≡ x → cond t a b ≡ x

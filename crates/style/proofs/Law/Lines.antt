@@ -2,14 +2,13 @@
 use mathlib.Core.Path.{_≡_, refl, sym, _∙_, ap, subst}
 use mathlib.Core.Bool.{Bool, true, false, _&&_, false≢true}
 use mathlib.Core.List.{List, map}
-use Prim.Native.Nat.{ℕ, _-_, _<_, _≤_}
+use Prim.Native.Nat.{ℕ, _-_, _<_}
 use native.Mathlib.Omega.{arith}
-use borrow.Author.Tests.{eq-eqb, ne-eqb, lt-ltb}
+use borrow.Author.Tests.{eq-eqb, ne-eqb}
 use lib.ListN.{length, take, drop}
 use lib.Seq.{slice, length-slice}
 use Rattle.lexer.proofs.Law.Spelling.{slice-is}
 use Rattle.kind.specs.declared.kind.Kind.{Kind}
-use Rattle.kind.specs.declared.set.Kinds.{Kinds}
 use Rattle.checker.specs.Name.{numberOf}
 use Rattle.checker.specs.Property.{declared, propertyKinds, unpackedOf, packedOf}
 use Rattle.checker.specs.declared.name.Scope.{Scope}
@@ -26,14 +25,13 @@ use Rattle.text.specs.declared.word.TypeName.the-variants as type
 use Rattle.text.specs.declared.word.Flags.{Flags}
 use Rattle.text.specs.declared.word.Flags.the-variants as flags
 use Rattle.text.specs.declared.word.Line.{Line}
-use Rattle.text.specs.declared.word.Line.the-variants as word
 use Rattle.text.proofs.Law.Parts.{from-first, here, start-next}
 use Rattle.text.proofs.Slices.{put-left}
-use Rattle.style.specs.Style.{Expression, Style, condition, admits, admitsTo, nameOf, defineName, kindsIn}
+use Rattle.style.specs.Style.{Expression, Style, admits, admitsTo, nameOf, defineName, kindsIn}
 use Rattle.style.specs.Expression.{Judgement, expressionOf}
 use Rattle.style.specs.Expression as judged
-use Rattle.style.specs.Line.{Said, refused, adds, isNew, onExpression, onType, onFlags, expression, propertyLine, defineLine, showLine, colourLine, conditionLine, lineBy, lineSaid}
-use Rattle.style.specs.Tables.{Laid, Counted}
+use Rattle.style.specs.Line.{Said, refused, isNew, onExpression, onType, onFlags, expression, propertyLine, defineLine, showLine, colourLine, conditionLine, lineBy, lineSaid}
+use Rattle.style.specs.Tables.{Counted}
 use Rattle.style.specs.Inner.{look, EntersField, FieldBy, isNewProperty, isNewDefine, Reads, NameLies, Says, Of, ReadBy, FlagsBy, PropertyBy, DefineBy, wantedBy, singleEntry, singleLine, SingleBy, ColourBy, ConditionBy}
 use Rattle.style.specs.declared.tables.Counts.{Counts}
 use Rattle.style.specs.declared.entry.Entry.{Entry}
@@ -60,9 +58,11 @@ module _ (line : List ℕ) (start end : ℕ) (t : Kind) (four : length (fields l
       (tt, λ head starts ends v name n. ap (λ f. onFlags f (fieldStart line 3) name t) (flags-are ∙ e) ∙ ap (refused 8) (sym (part-lies line 3 (omega arith) p is .begins)))
 
   pub flags-known : (a n : Bool) (byte : ℕ) → f ≡ flags.Known a n → byte ≡ packedOf (propertyKinds (declared t a n)) → FlagsBy line start end t (entry.Property start end byte)
-  flags-known a n byte e b =
-      (refl, λ head starts ends v name l.
-      (record { name = name; property = declared t a n }, ap (λ f. onFlags f (fieldStart line 3) name t) (flags-are ∙ e), l, ap unpackedOf b ∙ unpacked-packed (propertyKinds (declared t a n))))
+  flags-known a n byte e b = (
+    refl,
+    λ head starts ends v name l.
+        (record { name = name; property = declared t a n }, ap (λ f. onFlags f (fieldStart line 3) name t) (flags-are ∙ e), l, ap unpackedOf b ∙ unpacked-packed (propertyKinds (declared t a n))),
+  )
 
 module _ (head starts ends line : List ℕ) where
   pub property-count : (length (fields line) ≡ 4 → ⊥) → PropertyBy head starts ends line (entry.Refused 8 (length line))
@@ -76,9 +76,11 @@ module _ (head starts ends line : List ℕ) where
 
     pub property-name : new ≡ false → PropertyBy head starts ends line (entry.Refused 8 (p .start))
     unfolding propertyLine
-    property-name e =
-        (tt, λ sets v s reads.
-        taken _ (eq-eqb _ _ four) (passed _ (name-new sets s reads ∙ e) (ap (refused 8) (sym (part-lies line 1 (omega arith) p is .begins)))))
+    property-name e = (
+      tt,
+      λ sets v s reads.
+          taken _ (eq-eqb _ _ four) (passed _ (name-new sets s reads ∙ e) (ap (refused 8) (sym (part-lies line 1 (omega arith) p is .begins)))),
+    )
 
     module _ (fresh : new ≡ true) (q : Part) (is-q : q ≡ partAt 9 line 2) (f : TypeName) (read : f ≡ typeOf (take (q .end - q .start) (drop (q .start) line))) where
       type-is : typeOf (field line 2) ≡ f
@@ -92,19 +94,23 @@ module _ (head starts ends line : List ℕ) where
           (taken _ (name-new sets s reads ∙ fresh) (ap (λ f. onType f (fieldStart line 2) (λ t. onFlags (flagsOf (field line 3)) (fieldStart line 3) (field line 1) t)) type-is))
 
       pub property-type : f ≡ type.Unknown → PropertyBy head starts ends line (entry.Refused 8 (q .start))
-      property-type e =
-          (tt, λ sets v s reads.
-          on-type sets s reads
-          ∙ ap (λ f. onType f (fieldStart line 2) (λ t. onFlags (flagsOf (field line 3)) (fieldStart line 3) (field line 1) t)) e
-          ∙ ap (refused 8) (sym (part-lies line 2 (omega arith) q is-q .begins)))
+      property-type e = (
+        tt,
+        λ sets v s reads.
+            on-type sets s reads
+            ∙ ap (λ f. onType f (fieldStart line 2) (λ t. onFlags (flagsOf (field line 3)) (fieldStart line 3) (field line 1) t)) e
+            ∙ ap (refused 8) (sym (part-lies line 2 (omega arith) q is-q .begins)),
+      )
 
       pub property-flags : (t : Kind) (r : Entry) → f ≡ type.Known t → FlagsBy line (p .start) (p .end) t r → PropertyBy head starts ends line r
-      property-flags t r e by =
-          (by .0, λ sets v s reads.
-          subst
-          (Says head starts ends line v r)
-          (sym (on-type sets s reads ∙ ap (λ f. onType f (fieldStart line 2) (λ t. onFlags (flagsOf (field line 3)) (fieldStart line 3) (field line 1) t)) e))
-          (by .1 head starts ends v (field line 1) (named sets s reads)))
+      property-flags t r e by = (
+        by .0,
+        λ sets v s reads.
+            subst
+            (Says head starts ends line v r)
+            (sym (on-type sets s reads ∙ ap (λ f. onType f (fieldStart line 2) (λ t. onFlags (flagsOf (field line 3)) (fieldStart line 3) (field line 1) t)) e))
+            (by .1 head starts ends v (field line 1) (named sets s reads)),
+      )
         where
           named : (sets : List ℕ) (s : Style) → Reads head starts ends sets s → NameLies line (p .start) (p .end) (field line 1)
           named sets s reads =
@@ -152,23 +158,28 @@ module _ (head starts ends sets line : List ℕ) where
     module _ (fresh : new ≡ true) (w v : List ℕ) (r : Field) (by : FieldBy scope.Define wanted.Any head starts ends sets line 2 w v r) where
       pub define-refused : (n q : ℕ) → r ≡ field-of.Refused n q → DefineBy head starts ends sets line v (entry.Refused n q)
       unfolding defineLine
-      define-refused n q e =
-          (tt, λ s reads.
-          taken _ (eq-eqb _ _ three)
-          (taken _ (define-new s reads ∙ fresh) (on-refused _ (field-refuses head starts ends sets s reads scope.Define wanted.Any line 2 w v r by n q e))))
+      define-refused n q e = (
+        tt,
+        λ s reads.
+            taken _ (eq-eqb _ _ three)
+            (taken _ (define-new s reads ∙ fresh) (on-refused _ (field-refuses head starts ends sets s reads scope.Define wanted.Any line 2 w v r by n q e))),
+      )
 
       pub define-accepted : (from to root byte : ℕ) → r ≡ field-of.Accepted from to root byte → DefineBy head starts ends sets line v (entry.Define (p .start) (p .end) from to root byte)
       unfolding defineLine
       define-accepted from to root byte e =
           let a : EntersField (numberOf scope.Define head starts ends) (look scope.Define head starts ends sets) wanted.Any line 2 w v from to root byte =
           subst (FieldBy scope.Define wanted.Any head starts ends sets line 2 w v) e by in
-          let l = part-lies line 1 (omega arith) p is in
-          (refl, λ s reads.
-          (record { name = field line 1; expression = a .e },
-          taken _ (eq-eqb _ _ three) (taken _ (define-new s reads ∙ fresh) (on-accepted _ (field-accepts head starts ends sets s reads scope.Define wanted.Any line 2 a))),
-          record { order = l .order; inside = l .inside; is = l .is; right = both (isName (field line 1)) _ (define-new s reads ∙ fresh) },
-          a .byte-is,
-          a .laid))
+          let l = part-lies line 1 (omega arith) p is in (
+            refl,
+            λ s reads. (
+              record { name = field line 1; expression = a .e },
+              taken _ (eq-eqb _ _ three) (taken _ (define-new s reads ∙ fresh) (on-accepted _ (field-accepts head starts ends sets s reads scope.Define wanted.Any line 2 a))),
+              record { order = l .order; inside = l .inside; is = l .is; right = both (isName (field line 1)) _ (define-new s reads ∙ fresh) },
+              a .byte-is,
+              a .laid,
+            ),
+          )
 
 -- ---- `show` and `color`
 
@@ -185,14 +196,18 @@ module _ (head starts ends sets line : List ℕ) (two : length (fields line) ≡
   pub single-refused : (c : Bool) (want : Wanted) (r : Field) (n q : ℕ) → want ≡ wantedBy c → FieldBy scope.Style want head starts ends sets line 1 w v r →
       r ≡ field-of.Refused n q → SingleBy c head starts ends sets line v (entry.Refused n q)
   unfolding showLine colourLine
-  single-refused true want r n q h by e =
-      (tt, λ s reads.
-      taken _ (eq-eqb _ _ two)
-      (on-refused _ (field-refuses head starts ends sets s reads scope.Style wanted.Vec4 line 1 w v r (subst (λ k. FieldBy scope.Style k head starts ends sets line 1 w v r) h by) n q e)))
-  single-refused false want r n q h by e =
-      (tt, λ s reads.
-      taken _ (eq-eqb _ _ two)
-      (on-refused _ (field-refuses head starts ends sets s reads scope.Style wanted.Boolean line 1 w v r (subst (λ k. FieldBy scope.Style k head starts ends sets line 1 w v r) h by) n q e)))
+  single-refused true want r n q h by e = (
+    tt,
+    λ s reads.
+        taken _ (eq-eqb _ _ two)
+        (on-refused _ (field-refuses head starts ends sets s reads scope.Style wanted.Vec4 line 1 w v r (subst (λ k. FieldBy scope.Style k head starts ends sets line 1 w v r) h by) n q e)),
+  )
+  single-refused false want r n q h by e = (
+    tt,
+    λ s reads.
+        taken _ (eq-eqb _ _ two)
+        (on-refused _ (field-refuses head starts ends sets s reads scope.Style wanted.Boolean line 1 w v r (subst (λ k. FieldBy scope.Style k head starts ends sets line 1 w v r) h by) n q e)),
+  )
 
   pub single-accepted : (c : Bool) (want : Wanted) (r : Field) (from to root byte : ℕ) (x : Entry) → want ≡ wantedBy c → FieldBy scope.Style want head starts ends sets line 1 w v r →
       r ≡ field-of.Accepted from to root byte → x ≡ singleEntry c from to root → SingleBy c head starts ends sets line v x
@@ -203,12 +218,16 @@ module _ (head starts ends sets line : List ℕ) (two : length (fields line) ≡
     where
       go : (c : Bool) → FieldBy scope.Style (wantedBy c) head starts ends sets line 1 w v (field-of.Accepted from to root byte) →
           SingleBy c head starts ends sets line v (singleEntry c from to root)
-      go true a =
-          (refl, λ s reads.
-          (a .e, taken _ (eq-eqb _ _ two) (on-accepted _ (field-accepts head starts ends sets s reads scope.Style wanted.Vec4 line 1 a)), a .laid))
-      go false a =
-          (refl, λ s reads.
-          (a .e, taken _ (eq-eqb _ _ two) (on-accepted _ (field-accepts head starts ends sets s reads scope.Style wanted.Boolean line 1 a)), a .laid))
+      go true a = (
+        refl,
+        λ s reads.
+            (a .e, taken _ (eq-eqb _ _ two) (on-accepted _ (field-accepts head starts ends sets s reads scope.Style wanted.Vec4 line 1 a)), a .laid),
+      )
+      go false a = (
+        refl,
+        λ s reads.
+            (a .e, taken _ (eq-eqb _ _ two) (on-accepted _ (field-accepts head starts ends sets s reads scope.Style wanted.Boolean line 1 a)), a .laid),
+      )
 
 -- ---- `cond`
 
@@ -220,23 +239,26 @@ module _ (head starts ends sets line : List ℕ) (from to test : ℕ) (w v : Lis
   pub colour-accepted : (start end root byte : ℕ) → r ≡ field-of.Accepted start end root byte → ColourBy head starts ends sets line from to test w v (entry.Condition from to test start end root)
   colour-accepted start end root byte e =
       let a : EntersField (numberOf scope.Style head starts ends) (look scope.Style head starts ends sets) wanted.Vec4 line 2 w v start end root byte =
-      subst (FieldBy scope.Style wanted.Vec4 head starts ends sets line 2 w v) e by in
-      (refl, λ s reads t l before.
-      (record { test = t; colour = a .e },
-      on-accepted _ (field-accepts head starts ends sets s reads scope.Style wanted.Vec4 line 2 a),
-      record {
-        order = l .order;
-        inside = l .inside;
-        is = l .is;
-        rooted = l .rooted;
-        before = l .before;
-        size = l .size;
-        beside =
-          ap (slice from to) (a .others)
-          ∙ put-left w start end (a .part) (omega (arith, a .laid .inside, room)) (a .laid .order) from to (omega (arith, a .starts, before))
-          ∙ l .beside;
-      },
-      a .laid))
+      subst (FieldBy scope.Style wanted.Vec4 head starts ends sets line 2 w v) e by in (
+        refl,
+        λ s reads t l before. (
+          record { test = t; colour = a .e },
+          on-accepted _ (field-accepts head starts ends sets s reads scope.Style wanted.Vec4 line 2 a),
+          record {
+            order = l .order;
+            inside = l .inside;
+            is = l .is;
+            rooted = l .rooted;
+            before = l .before;
+            size = l .size;
+            beside =
+                ap (slice from to) (a .others)
+                ∙ put-left w start end (a .part) (omega (arith, a .laid .inside, room)) (a .laid .order) from to (omega (arith, a .starts, before))
+                ∙ l .beside;
+          },
+          a .laid,
+        ),
+      )
 
 module _ (head starts ends sets line : List ℕ) where
   pub condition-count : (v : List ℕ) → (length (fields line) ≡ 3 → ⊥) → ConditionBy head starts ends sets line v (entry.Refused 8 (length line))
@@ -260,12 +282,14 @@ module _ (head starts ends sets line : List ℕ) where
     unfolding conditionLine
     condition-colour v from to root byte x e rest =
         let a : EntersField (numberOf scope.Style head starts ends) (look scope.Style head starts ends sets) wanted.Boolean line 1 w u from to root byte =
-        subst (FieldBy scope.Style wanted.Boolean head starts ends sets line 1 w u) e by in
-        (rest .0, λ s reads.
-        subst
-        (Says head starts ends line v x)
-        (sym (taken _ (eq-eqb _ _ three) (on-accepted _ (field-accepts head starts ends sets s reads scope.Style wanted.Boolean line 1 a))))
-        (rest .1 s reads (a .e) (a .laid) (ahead a)))
+        subst (FieldBy scope.Style wanted.Boolean head starts ends sets line 1 w u) e by in (
+          rest .0,
+          λ s reads.
+              subst
+              (Says head starts ends line v x)
+              (sym (taken _ (eq-eqb _ _ three) (on-accepted _ (field-accepts head starts ends sets s reads scope.Style wanted.Boolean line 1 a))))
+              (rest .1 s reads (a .e) (a .laid) (ahead a)),
+        )
 
 -- ---- any line, by its word
 
@@ -288,6 +312,7 @@ module _ (head : List ℕ) (c : Counts) (starts ends sets line : List ℕ) (end 
   pub read-as : (v : List ℕ) (w : Line) (r : Entry) → a ≡ true → l ≡ w → Of w r → ((s : Style) → Reads head starts ends sets s → Says head starts ends line v r (lineBy w s line)) →
       ReadBy head c starts ends sets line v r
   unfolding lineSaid
-  read-as v w r e h of says =
-      (λ f. (w, of, ap (λ l. admits l (c .properties) (c .defines) (c .shows) (c .colours) (c .conditions)) (sym h) ∙ sym asked ∙ e),
-      λ s n reads. subst (Says head starts ends line v r) (sym (taken _ (admits-is s n ∙ e) (ap (λ l. lineBy l s line) (word-is ∙ h)))) (says s reads))
+  read-as v w r e h of says = (
+    λ f. (w, of, ap (λ l. admits l (c .properties) (c .defines) (c .shows) (c .colours) (c .conditions)) (sym h) ∙ sym asked ∙ e),
+    λ s n reads. subst (Says head starts ends line v r) (sym (taken _ (admits-is s n ∙ e) (ap (λ l. lineBy l s line) (word-is ∙ h)))) (says s reads),
+  )

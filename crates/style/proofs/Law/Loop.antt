@@ -1,14 +1,14 @@
 -- The lines of a head in turn.
 use mathlib.Core.Path.{_≡_, refl, sym, _∙_, ap, subst}
-use mathlib.Core.Bool.{Bool, true, false, cond, false≢true}
+use mathlib.Core.Bool.{Bool, true, false, false≢true}
 use mathlib.Core.List.{List, [], _∷_}
 use Prim.Native.Nat.{ℕ, suc, _+_, _-_, _*_, _<_, _≤_}
 use native.Mathlib.Numerals.{add-one}
 use native.Mathlib.Omega.{arith}
 use borrow.Author.Tests.{lt-ltb, le-ltb, ltb-true}
 use lib.Dec.{ltb}
-use lib.ListN.{length, getD, take, drop, replicate, length-replicate, getD-replicate, drop-of-length-le}
-use lib.Seq.{slice, slice-empty, length-slice}
+use lib.ListN.{length, getD, take, drop, replicate, getD-replicate, drop-of-length-le}
+use lib.Seq.{slice, length-slice}
 use Rattle.lexer.proofs.Law.Spelling.{slice-is}
 use Rattle.kind.specs.Set.{setOf, singleOf}
 use Rattle.checker.specs.Property.{setAt, unpackedOf}
@@ -19,7 +19,7 @@ use Rattle.text.specs.Slice.{putBack}
 use Rattle.text.proofs.Law.Parts.{lines-from, end-within}
 use Rattle.text.proofs.Slices.{put-length}
 use Rattle.style.specs.Style.{Expression, Define, Condition, Style, empty, with, admits}
-use Rattle.style.specs.Line.{Said, refused, adds, lineSaid}
+use Rattle.style.specs.Line.{Said, refused, lineSaid}
 use Rattle.style.specs.Head.{Headed, refusedAt, gives, onLine, headFrom, headOf, answered, refusal, checkedOf, roomAfter}
 use Rattle.style.specs.Tables.{FreeRow, Held, Expressed, Holds, Compiles}
 use Rattle.style.specs.Inner.{Says, Admitted, ReadBy, Fits, Within, isRefused, numberIn, placeIn, freshTables, withEntry, LinesBy}
@@ -55,16 +55,16 @@ fresh-held head room =
       counted = record { properties = refl; defines = refl; shows = refl; colours = refl; conditions = refl };
       sized = record { starts = refl; ends = refl; sets = refl; froms = refl; tos = refl; roots = refl };
       named =
-        record {
-          few-properties = omega arith;
-          few-defines = omega arith;
-          properties = tt;
-          no-properties = λ i low high. free head i (omega (arith, high));
-          defines = tt;
-          no-defines = λ i low high. free head (32 + i) (omega (arith, high));
-        };
+          record {
+            few-properties = omega arith;
+            few-defines = omega arith;
+            properties = tt;
+            no-properties = λ i low high. free head i (omega (arith, high));
+            defines = tt;
+            no-defines = λ i low high. free head (32 + i) (omega (arith, high));
+          };
       expressed =
-        record { few-shows = omega arith; few-colours = omega arith; few-conditions = omega arith; defines = tt; shows = tt; colours = tt; conditions = tt };
+          record { few-shows = omega arith; few-colours = omega arith; few-conditions = omega arith; defines = tt; shows = tt; colours = tt; conditions = tt };
     }
 
 -- ---- where the loop stands
@@ -160,10 +160,11 @@ module _ (head room : List ℕ) (t : Tables) (at n : ℕ) (f : Sofar head room t
 
   -- what the tables ask of it
   pub turn-fits : isRefused r ≡ false → Fits r (t .counts) × (at ≤ 32768) × Within r (32768 - at)
-  turn-fits e =
-      (fits r (t .counts) e (read .0),
-      omega (arith, short, more),
-      within head (t .starts) (t .ends) (slice at end head) u r _ (32768 - at) (omega (arith, length-slice at end head line-ends, line-ends, short, line-order)) says)
+  turn-fits e = (
+    fits r (t .counts) e (read .0),
+    omega (arith, short, more),
+    within head (t .starts) (t .ends) (slice at end head) u r _ (32768 - at) (omega (arith, length-slice at end head line-ends, line-ends, short, line-order)) says,
+  )
 
 -- ---- the end
 
@@ -175,19 +176,19 @@ further head room t s at to l h =
       sized = h .sized;
       named = h .named;
       expressed =
-        record {
-          few-shows = x .few-shows;
-          few-colours = x .few-colours;
-          few-conditions = x .few-conditions;
-          defines = each-map (λ i (d : Define). Held scope.Define head room t at i (d .expression)) (λ i (d : Define). Held scope.Define head room t to i (d .expression)) 0 (s .defines) (λ k d low high y. wider scope.Define k (d .expression) y) (x .defines);
-          shows = each-map (λ i (e : Expression). Held scope.Style head room t at (16 + i) e) (λ i (e : Expression). Held scope.Style head room t to (16 + i) e) 0 (s .shows) (λ k e low high y. wider scope.Style (16 + k) e y) (x .shows);
-          colours = each-map (λ i (e : Expression). Held scope.Style head room t at (17 + i) e) (λ i (e : Expression). Held scope.Style head room t to (17 + i) e) 0 (s .colours) (λ k e low high y. wider scope.Style (17 + k) e y) (x .colours);
-          conditions =
-            each-map (λ i (c : Condition). Held scope.Style head room t at (18 + 2 * i) (c .test) × Held scope.Style head room t at (19 + 2 * i) (c .colour))
-            (λ i (c : Condition). Held scope.Style head room t to (18 + 2 * i) (c .test) × Held scope.Style head room t to (19 + 2 * i) (c .colour)) 0 (s .conditions)
-            (λ k c low high y. (wider scope.Style (18 + 2 * k) (c .test) (y .0), wider scope.Style (19 + 2 * k) (c .colour) (y .1)))
-            (x .conditions);
-        };
+          record {
+            few-shows = x .few-shows;
+            few-colours = x .few-colours;
+            few-conditions = x .few-conditions;
+            defines = each-map (λ i (d : Define). Held scope.Define head room t at i (d .expression)) (λ i (d : Define). Held scope.Define head room t to i (d .expression)) 0 (s .defines) (λ k d low high y. wider scope.Define k (d .expression) y) (x .defines);
+            shows = each-map (λ i (e : Expression). Held scope.Style head room t at (16 + i) e) (λ i (e : Expression). Held scope.Style head room t to (16 + i) e) 0 (s .shows) (λ k e low high y. wider scope.Style (16 + k) e y) (x .shows);
+            colours = each-map (λ i (e : Expression). Held scope.Style head room t at (17 + i) e) (λ i (e : Expression). Held scope.Style head room t to (17 + i) e) 0 (s .colours) (λ k e low high y. wider scope.Style (17 + k) e y) (x .colours);
+            conditions =
+                each-map (λ i (c : Condition). Held scope.Style head room t at (18 + 2 * i) (c .test) × Held scope.Style head room t at (19 + 2 * i) (c .colour))
+                (λ i (c : Condition). Held scope.Style head room t to (18 + 2 * i) (c .test) × Held scope.Style head room t to (19 + 2 * i) (c .colour)) 0 (s .conditions)
+                (λ k c low high y. (wider scope.Style (18 + 2 * k) (c .test) (y .0), wider scope.Style (19 + 2 * k) (c .colour) (y .1)))
+                (x .conditions);
+          };
     }
   where
     x : Expressed head room t s at
@@ -203,11 +204,11 @@ isAccepted (checked.Refused r) = false
 refusal-other : {m n p : ℕ} → refusal m n p ≡ checked.Accepted → ⊥
 refusal-other e = false≢true (ap isAccepted e)
 
-abbrev styleIn : Headed → Style → Style
+abbrev pub styleIn : Headed → Style → Style
 styleIn (refusedAt m n p) s = s
 styleIn (gives t) s = t
 
-abbrev isGiven : Headed → Bool
+abbrev pub isGiven : Headed → Bool
 isGiven (refusedAt m n p) = false
 isGiven (gives s) = true
 
