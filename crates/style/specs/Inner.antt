@@ -26,7 +26,7 @@ use Rattle.text.specs.declared.word.Line.the-variants as word
 use Rattle.style.specs.Style.{Declared, Expression, Define, Condition, Style, property, define, show, colour, condition, admits, nameOf, defineName, kindsIn}
 use Rattle.style.specs.Expression.{expressionOf}
 use Rattle.style.specs.Expression as judged
-use Rattle.style.specs.Line.{Said, refused, adds, isNew, onFlags, propertyLine, defineLine, showLine, colourLine, conditionLine, expression, lineSaid}
+use Rattle.style.specs.Line.{Said, refused, adds, isNew, onExpression, onFlags, propertyLine, defineLine, showLine, colourLine, conditionLine, expression, lineSaid}
 use Rattle.style.specs.Head.{gives, headOf, answered}
 use Rattle.style.specs.Tables.{Laid, Counted, Holds}
 use Rattle.style.specs.declared.tables.Counts.{Counts}
@@ -120,6 +120,13 @@ FlagsBy line start end t r = Of word.Prop r × ((head starts ends v name : List 
 
 abbrev pub PropertyBy : List ℕ → List ℕ → List ℕ → List ℕ → Entry → Type 0
 PropertyBy head starts ends line r = Of word.Prop r × ((sets v : List ℕ) (s : Style) → Reads head starts ends sets s → Says head starts ends line v r (propertyLine s line))
+
+-- the expression of a define, with the name before it
+abbrev pub DefinedBy : List ℕ → List ℕ → List ℕ → List ℕ → List ℕ → ℕ → ℕ → List ℕ → Entry → Type 0
+DefinedBy head starts ends sets line start end v r =
+    Of word.Define r
+    × ((s : Style) → Reads head starts ends sets s → (name : List ℕ) → NameLies line start end name →
+    Says head starts ends line v r (onExpression (expressionOf (kindsIn scope.Define s) wanted.Any (parts.field line 2)) (λ e. adds (define (record { name = name; expression = e })))))
 
 abbrev pub DefineBy : List ℕ → List ℕ → List ℕ → List ℕ → List ℕ → List ℕ → Entry → Type 0
 DefineBy head starts ends sets line v r = Of word.Define r × ((s : Style) → Reads head starts ends sets s → Says head starts ends line v r (defineLine s line))

@@ -3,7 +3,7 @@ ghost use mathlib.Core.Path.{_≡_};
 ghost use lib.ListN.{length};
 ghost use Rattle.text.specs.Parts.{fields};
 ghost use Rattle.style.specs.Style.{admits};
-ghost use Rattle.style.specs.Inner.{isNewProperty, isNewDefine, wantedBy, singleEntry, FlagsBy, PropertyBy, DefineBy, SingleBy, ColourBy, ConditionBy, ReadBy};
+ghost use Rattle.style.specs.Inner.{isNewProperty, isNewDefine, wantedBy, singleEntry, FlagsBy, PropertyBy, DefinedBy, DefineBy, SingleBy, ColourBy, ConditionBy, ReadBy};
 use crate::entry::Entry;
 use crate::expression::Field;
 use crate::expression::enter_field;
@@ -106,32 +106,20 @@ fn property(head: &[u8], starts: &[usize; 48], ends: &[usize; 48], line: &[u8]) 
     }
 }
 
-fn define(
+// The expression of a define whose name lies from a place up to another.
+fn defined(
     head: &[u8],
     starts: &[usize; 48],
     ends: &[usize; 48],
     sets: &[u8; 48],
     line: &[u8],
+    start: usize,
+    end: usize,
     slots: &mut [u16],
 ) -> Entry
-    requires { ⌜ length (now slots) ≡ length (now line) ⌝ }
-    ensures { λ r. ⌜ DefineBy (now (head .entry)) (now (starts .entry)) (now (ends .entry)) (now (sets .entry)) (now (line .entry)) (now (slots .exit)) r ⌝ }
+    requires { ⌜ (length (now slots) ≡ length (now line)) × (length (fields (now line)) ≡ 3) ⌝ }
+    ensures { λ r. ⌜ DefinedBy (now (head .entry)) (now (starts .entry)) (now (ends .entry)) (now (sets .entry)) (now (line .entry)) start end (now (slots .exit)) r ⌝ }
 {
-    if part::count(TAB, line) != 3 {
-        return Entry::Refused {
-            number: 8,
-            place: line.len(),
-        };
-    }
-    let name = part::nth(TAB, line, 1);
-    let start = name.start;
-    let end = name.end;
-    if !is_new_define(head, starts, ends, &line[start..end]) {
-        return Entry::Refused {
-            number: 8,
-            place: start,
-        };
-    }
     match enter_field(
         Scope::Define,
         Wanted::Any,
@@ -158,6 +146,35 @@ fn define(
             set,
         },
     }
+}
+
+fn define(
+    head: &[u8],
+    starts: &[usize; 48],
+    ends: &[usize; 48],
+    sets: &[u8; 48],
+    line: &[u8],
+    slots: &mut [u16],
+) -> Entry
+    requires { ⌜ length (now slots) ≡ length (now line) ⌝ }
+    ensures { λ r. ⌜ DefineBy (now (head .entry)) (now (starts .entry)) (now (ends .entry)) (now (sets .entry)) (now (line .entry)) (now (slots .exit)) r ⌝ }
+{
+    if part::count(TAB, line) != 3 {
+        return Entry::Refused {
+            number: 8,
+            place: line.len(),
+        };
+    }
+    let name = part::nth(TAB, line, 1);
+    let start = name.start;
+    let end = name.end;
+    if !is_new_define(head, starts, ends, &line[start..end]) {
+        return Entry::Refused {
+            number: 8,
+            place: start,
+        };
+    }
+    defined(head, starts, ends, sets, line, start, end, slots)
 }
 
 // What `show` and `color` have to end in.
@@ -212,12 +229,7 @@ fn single(
         slots,
     ) {
         Field::Refused { number, place } => Entry::Refused { number, place },
-        Field::Accepted {
-            from,
-            to,
-            root,
-            set: _,
-        } => single_entry(colour, from, to, root),
+        Field::Accepted { from, to, root, .. } => single_entry(colour, from, to, root),
     }
 }
 
@@ -252,7 +264,7 @@ fn with_colour(
             from: begin,
             to: end,
             root,
-            set: _,
+            ..
         } => Entry::Condition {
             from,
             to,
@@ -293,12 +305,17 @@ fn condition(
         slots,
     ) {
         Field::Refused { number, place } => Entry::Refused { number, place },
-        Field::Accepted {
+        Field::Accepted { from, to, root, .. } => with_colour(
+            head,
+            starts,
+            ends,
+            sets,
+            line,
             from,
             to,
             root,
-            set: _,
-        } => with_colour(head, starts, ends, sets, line, from, to, root, slots),
+            slots,
+        ),
     }
 }
 

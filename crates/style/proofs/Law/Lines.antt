@@ -32,7 +32,7 @@ use Rattle.style.specs.Expression.{Judgement, expressionOf}
 use Rattle.style.specs.Expression as judged
 use Rattle.style.specs.Line.{Said, refused, isNew, onExpression, onType, onFlags, expression, propertyLine, defineLine, showLine, colourLine, conditionLine, lineBy, lineSaid}
 use Rattle.style.specs.Tables.{Counted}
-use Rattle.style.specs.Inner.{look, EntersField, FieldBy, isNewProperty, isNewDefine, Reads, NameLies, Says, Of, ReadBy, FlagsBy, PropertyBy, DefineBy, wantedBy, singleEntry, singleLine, SingleBy, ColourBy, ConditionBy}
+use Rattle.style.specs.Inner.{look, EntersField, FieldBy, isNewProperty, isNewDefine, Reads, NameLies, Says, Of, ReadBy, FlagsBy, PropertyBy, DefinedBy, DefineBy, wantedBy, singleEntry, singleLine, SingleBy, ColourBy, ConditionBy}
 use Rattle.style.specs.declared.tables.Counts.{Counts}
 use Rattle.style.specs.declared.entry.Entry.{Entry}
 use Rattle.style.specs.declared.entry.Entry.the-variants as entry
@@ -155,31 +155,26 @@ module _ (head starts ends sets line : List ℕ) where
     define-name v e =
         (tt, λ s reads. taken _ (eq-eqb _ _ three) (passed _ (define-new s reads ∙ e) (ap (refused 8) (sym (part-lies line 1 (omega arith) p is .begins)))))
 
-    module _ (fresh : new ≡ true) (w v : List ℕ) (r : Field) (by : FieldBy scope.Define wanted.Any head starts ends sets line 2 w v r) where
-      pub define-refused : (n q : ℕ) → r ≡ field-of.Refused n q → DefineBy head starts ends sets line v (entry.Refused n q)
-      unfolding defineLine
-      define-refused n q e = (
-        tt,
-        λ s reads.
-            taken _ (eq-eqb _ _ three)
-            (taken _ (define-new s reads ∙ fresh) (on-refused _ (field-refuses head starts ends sets s reads scope.Define wanted.Any line 2 w v r by n q e))),
-      )
+    pub define-body : new ≡ true → (v : List ℕ) (r : Entry) → DefinedBy head starts ends sets line (p .start) (p .end) v r → DefineBy head starts ends sets line v r
+    unfolding defineLine
+    define-body fresh v r by =
+        let l = part-lies line 1 (omega arith) p is in (
+          by .0,
+          λ s reads.
+              subst (Says head starts ends line v r) (sym (taken _ (eq-eqb _ _ three) (taken _ (define-new s reads ∙ fresh) refl)))
+              (by .1 s reads (field line 1) (record { order = l .order; inside = l .inside; is = l .is; right = both (isName (field line 1)) _ (define-new s reads ∙ fresh) })),
+        )
 
-      pub define-accepted : (from to root byte : ℕ) → r ≡ field-of.Accepted from to root byte → DefineBy head starts ends sets line v (entry.Define (p .start) (p .end) from to root byte)
-      unfolding defineLine
-      define-accepted from to root byte e =
-          let a : EntersField (numberOf scope.Define head starts ends) (look scope.Define head starts ends sets) wanted.Any line 2 w v from to root byte =
-          subst (FieldBy scope.Define wanted.Any head starts ends sets line 2 w v) e by in
-          let l = part-lies line 1 (omega arith) p is in (
-            refl,
-            λ s reads. (
-              record { name = field line 1; expression = a .e },
-              taken _ (eq-eqb _ _ three) (taken _ (define-new s reads ∙ fresh) (on-accepted _ (field-accepts head starts ends sets s reads scope.Define wanted.Any line 2 a))),
-              record { order = l .order; inside = l .inside; is = l .is; right = both (isName (field line 1)) _ (define-new s reads ∙ fresh) },
-              a .byte-is,
-              a .laid,
-            ),
-          )
+-- its expression
+module _ (head starts ends sets line : List ℕ) (start end : ℕ) (w v : List ℕ) (r : Field) (by : FieldBy scope.Define wanted.Any head starts ends sets line 2 w v r) where
+  pub body-refused : (n q : ℕ) → r ≡ field-of.Refused n q → DefinedBy head starts ends sets line start end v (entry.Refused n q)
+  body-refused n q e = (tt, λ s reads name l. on-refused _ (field-refuses head starts ends sets s reads scope.Define wanted.Any line 2 w v r by n q e))
+
+  pub body-accepted : (from to root byte : ℕ) → r ≡ field-of.Accepted from to root byte → DefinedBy head starts ends sets line start end v (entry.Define start end from to root byte)
+  body-accepted from to root byte e =
+      let a : EntersField (numberOf scope.Define head starts ends) (look scope.Define head starts ends sets) wanted.Any line 2 w v from to root byte =
+      subst (FieldBy scope.Define wanted.Any head starts ends sets line 2 w v) e by in
+      (refl, λ s reads name l. (record { name = name; expression = a .e }, on-accepted _ (field-accepts head starts ends sets s reads scope.Define wanted.Any line 2 a), l, a .byte-is, a .laid))
 
 -- ---- `show` and `color`
 

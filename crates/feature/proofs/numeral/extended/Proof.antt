@@ -3,8 +3,6 @@ use borrow.Author.Needs.{needs}
 use Rattle.feature.proofs.numeral.extended.Statement.{statement}
 use Rattle.feature.proofs.numeral.extended.Tie as tie
 use Prim.Native.Nat.{_-_}
-use Rattle.text.specs.Parts.{field}
-use Rattle.feature.specs.Inner.{longer}
 
 enum-told : tie.Need-enum-told
 enum-told c = search needs

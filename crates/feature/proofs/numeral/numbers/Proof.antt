@@ -8,7 +8,6 @@ use native.Mathlib.Omega.{arith}
 use lib.ListN.{length}
 use Rattle.text.specs.Parts.{field}
 use Rattle.feature.specs.Field.{numbersOf}
-use Rattle.feature.specs.Inner.{extended}
 use Rattle.text.proofs.Law.Parts.{partsFrom, end-within}
 use Rattle.feature.proofs.Law.Numbers.{continued, numbers-start, numbers-turn, numbers-end}
 

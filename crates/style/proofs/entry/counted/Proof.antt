@@ -1,3 +1,4 @@
+-- `counted` is the definition, arm by arm.
 use borrow.Author.Needs.{needs}
 use Rattle.style.proofs.entry.counted.Statement.{statement}
 use Rattle.style.proofs.entry.counted.Tie as tie

@@ -1,3 +1,4 @@
+-- `with_condition` sets two rows.
 use borrow.Author.Needs.{needs}
 use Rattle.style.proofs.entry.with_condition.Statement.{statement}
 use Rattle.style.proofs.entry.with_condition.Tie as tie

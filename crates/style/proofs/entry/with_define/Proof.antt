@@ -1,3 +1,4 @@
+-- `with_define` sets the name's row and then the expression's.
 use borrow.Author.Needs.{needs}
 use Rattle.style.proofs.entry.with_define.Statement.{statement}
 use Rattle.style.proofs.entry.with_define.Tie as tie

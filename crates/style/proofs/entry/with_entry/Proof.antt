@@ -1,3 +1,4 @@
+-- `with_entry` is the rows and then the counts.
 use borrow.Author.Needs.{needs}
 use Rattle.style.proofs.entry.with_entry.Statement.{statement}
 use Rattle.style.proofs.entry.with_entry.Tie as tie

@@ -1,3 +1,4 @@
+-- `with_rows` is the definition, arm by arm.
 use borrow.Author.Needs.{needs}
 use Rattle.style.proofs.entry.with_rows.Statement.{statement}
 use Rattle.style.proofs.entry.with_rows.Tie as tie

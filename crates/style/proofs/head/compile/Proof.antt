@@ -1,8 +1,8 @@
+-- `compile` is the sizes, and then the lines.
 use borrow.Author.Needs.{needs}
 use Rattle.style.proofs.head.compile.Statement.{statement}
 use Rattle.style.proofs.head.compile.Tie as tie
 use Prim.Native.Nat.{_-_}
-use Rattle.style.specs.Head.{refusal}
 use Rattle.style.proofs.Law.Loop.{too-small, too-long, all-lines}
 
 refusal-requires : tie.Need-refusal-requires

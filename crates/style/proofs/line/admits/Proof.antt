@@ -1,3 +1,4 @@
+-- `admits` is the definition, arm by arm.
 use borrow.Author.Needs.{needs}
 use Rattle.style.proofs.line.admits.Statement.{statement}
 use Rattle.style.proofs.line.admits.Tie as tie

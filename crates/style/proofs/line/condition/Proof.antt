@@ -1,3 +1,4 @@
+-- `condition` is two expressions, one behind the other.
 use borrow.Author.Needs.{needs}
 use Rattle.style.proofs.line.condition.Statement.{statement}
 use Rattle.style.proofs.line.condition.Tie as tie

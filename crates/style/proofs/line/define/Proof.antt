@@ -1,11 +1,11 @@
+-- `define` goes through the fields in turn, each return by its law.
 use borrow.Author.Needs.{needs}
 use Rattle.style.proofs.line.define.Statement.{statement}
 use Rattle.style.proofs.line.define.Tie as tie
 use mathlib.Core.Path.{sym, _∙_}
 use Prim.Native.Nat.{_-_}
-use native.Mathlib.Omega.{arith}
 use borrow.Author.Tests.{not-true, not-false}
-use Rattle.style.proofs.Law.Lines.{define-count, define-name, define-refused, define-accepted}
+use Rattle.style.proofs.Law.Lines.{define-count, define-name, define-body}
 
 count-requires : tie.Need-count-requires
 count-requires c κs = search needs
@@ -33,29 +33,16 @@ returns-2 : tie.Need-returns-2
 returns-2 c =
     define-name (c .before .before .before .before .before .before .before .before .before .args .head .now) (c .before .before .before .before .before .before .before .before .before .args .starts .now) (c .before .before .before .before .before .before .before .before .before .args .ends .now) (c .before .before .before .before .before .before .before .before .before .args .sets .now) (c .before .before .before .before .before .before .before .before .before .args .line .now) (sym (c .before .before .before .before .before .count .ensures) ∙ c .before .before .before .before .if1 .left) _ (c .before .before .before .nth .ensures .0) _ (c .before .is-new-define .ensures) (c .before .before .before .before .before .before .before .before .before .args .slots .now) (not-true _ (c .if2 .taken))
 
-enter-field-requires : tie.Need-enter-field-requires
-enter-field-requires c κs =
-    (c .before .before .before .before .before .before .before .before .before .before .pre, omega (arith, c .before .before .before .before .before .before .count .ensures, c .before .before .before .before .before .if1 .left))
-
-enum-known-number : tie.Need-enum-known-number
-enum-known-number c = search needs
-
-enum-known-from : tie.Need-enum-known-from
-enum-known-from c = search needs
+defined-requires : tie.Need-defined-requires
+defined-requires c κs =
+    (c .before .before .before .before .before .before .before .before .before .before .pre, sym (c .before .before .before .before .before .before .count .ensures) ∙ c .before .before .before .before .before .if1 .left)
 
 same-length : tie.Need-same-length
 same-length c = search needs
 
 returns-3 : tie.Need-returns-3
 returns-3 c =
-    define-refused (c .before .before .before .before .before .before .before .before .before .before .before .before .before .before .before .before .args .head .now) (c .before .before .before .before .before .before .before .before .before .before .before .before .before .before .before .before .args .starts .now) (c .before .before .before .before .before .before .before .before .before .before .before .before .before .before .before .before .args .ends .now) (c .before .before .before .before .before .before .before .before .before .before .before .before .before .before .before .before .args .sets .now) (c .before .before .before .before .before .before .before .before .before .before .before .before .before .before .before .before .args .line .now) (sym (c .before .before .before .before .before .before .before .before .before .before .before .before .count .ensures) ∙ c .before .before .before .before .before .before .before .before .before .before .before .if1 .left) _ (c .before .before .before .before .before .before .before .before .before .before .nth .ensures .0) _ (c .before .before .before .before .before .before .before .before .is-new-define .ensures) (not-false _ (c .before .before .before .before .before .before .before .if2 .left)) _ _ _ (c .before .before .before .before .before .enter-field .ensures) _ _ (c .before .number .given .1)
-
-same-length-2 : tie.Need-same-length-2
-same-length-2 c = search needs
-
-returns-4 : tie.Need-returns-4
-returns-4 c =
-    define-accepted (c .before .before .before .before .before .before .before .before .before .before .before .before .before .before .before .before .args .head .now) (c .before .before .before .before .before .before .before .before .before .before .before .before .before .before .before .before .args .starts .now) (c .before .before .before .before .before .before .before .before .before .before .before .before .before .before .before .before .args .ends .now) (c .before .before .before .before .before .before .before .before .before .before .before .before .before .before .before .before .args .sets .now) (c .before .before .before .before .before .before .before .before .before .before .before .before .before .before .before .before .args .line .now) (sym (c .before .before .before .before .before .before .before .before .before .before .before .before .count .ensures) ∙ c .before .before .before .before .before .before .before .before .before .before .before .if1 .left) _ (c .before .before .before .before .before .before .before .before .before .before .nth .ensures .0) _ (c .before .before .before .before .before .before .before .before .is-new-define .ensures) (not-false _ (c .before .before .before .before .before .before .before .if2 .left)) _ _ _ (c .before .before .before .before .before .enter-field .ensures) _ _ _ _ (c .before .from .given .1)
+    define-body (c .before .before .before .before .before .before .before .before .before .before .before .before .before .args .head .now) (c .before .before .before .before .before .before .before .before .before .before .before .before .before .args .starts .now) (c .before .before .before .before .before .before .before .before .before .before .before .before .before .args .ends .now) (c .before .before .before .before .before .before .before .before .before .before .before .before .before .args .sets .now) (c .before .before .before .before .before .before .before .before .before .before .before .before .before .args .line .now) (sym (c .before .before .before .before .before .before .before .before .before .count .ensures) ∙ c .before .before .before .before .before .before .before .before .if1 .left) _ (c .before .before .before .before .before .before .before .nth .ensures .0) _ (c .before .before .before .before .before .is-new-define .ensures) (not-false _ (c .before .before .before .before .if2 .left)) (c .before .before .defined .last .1 .1 .1 .1 .1 .1 .1 .0) (c .before .before .defined .result) (c .before .before .defined .ensures)
 
 pub define-spec : {M : Type 1} → statement M
 define-spec =
@@ -69,10 +56,6 @@ define-spec =
     part-is-new-define-end
     is-new-define-requires
     returns-2
-    enter-field-requires
-    enum-known-number
-    enum-known-from
+    defined-requires
     same-length
-    returns-3
-    same-length-2
-    returns-4)
+    returns-3)

@@ -1,3 +1,4 @@
+-- `flags` is the word's, and the property's kinds by it.
 use borrow.Author.Needs.{needs}
 use Rattle.style.proofs.line.flags.Statement.{statement}
 use Rattle.style.proofs.line.flags.Tie as tie

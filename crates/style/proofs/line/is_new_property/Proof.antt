@@ -1,3 +1,4 @@
+-- `is_new_property` is the definition.
 use borrow.Author.Needs.{needs}
 use Rattle.style.proofs.line.is_new_property.Statement.{statement}
 use Rattle.style.proofs.line.is_new_property.Tie as tie

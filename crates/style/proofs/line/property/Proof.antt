@@ -1,3 +1,4 @@
+-- `property` goes through the fields in turn, each return by its law.
 use borrow.Author.Needs.{needs}
 use Rattle.style.proofs.line.property.Statement.{statement}
 use Rattle.style.proofs.line.property.Tie as tie

@@ -1,7 +1,7 @@
+-- `read` is the line's word, and then the line that it begins.
 use borrow.Author.Needs.{needs}
 use Rattle.style.proofs.line.read.Statement.{statement}
 use Rattle.style.proofs.line.read.Tie as tie
-use Rattle.style.proofs.line.read.Reads as reads
 use mathlib.Core.Path.{refl}
 use Prim.Native.Nat.{_-_}
 use native.Mathlib.Omega.{arith}
@@ -9,7 +9,6 @@ use borrow.Author.Tests.{not-true, not-false}
 use Rattle.text.proofs.Law.Parts.{end-within}
 use Rattle.text.specs.declared.word.Line.the-variants as word
 use Rattle.style.specs.declared.entry.Entry.the-variants as entry
-use Rattle.style.specs.Style.{admits}
 use Rattle.style.proofs.Law.Lines.{read-out, read-as}
 
 end-requires : tie.Need-end-requires

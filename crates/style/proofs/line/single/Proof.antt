@@ -1,3 +1,4 @@
+-- `single` is the expression in the only field.
 use borrow.Author.Needs.{needs}
 use Rattle.style.proofs.line.single.Statement.{statement}
 use Rattle.style.proofs.line.single.Tie as tie

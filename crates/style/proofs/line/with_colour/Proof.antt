@@ -1,3 +1,4 @@
+-- `with_colour` is the expression in the second field; the first keeps its slots.
 use borrow.Author.Needs.{needs}
 use Rattle.style.proofs.line.with_colour.Statement.{statement}
 use Rattle.style.proofs.line.with_colour.Tie as tie

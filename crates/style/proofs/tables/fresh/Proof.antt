@@ -1,3 +1,4 @@
+-- `fresh` is the definition.
 use Rattle.style.proofs.tables.fresh.Statement.{statement}
 use Rattle.style.proofs.tables.fresh.Tie as tie
 use mathlib.Core.Path.{refl}

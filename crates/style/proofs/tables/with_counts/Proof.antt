@@ -1,3 +1,4 @@
+-- `with_counts` is the definition.
 use Rattle.style.proofs.tables.with_counts.Statement.{statement}
 use Rattle.style.proofs.tables.with_counts.Tie as tie
 use mathlib.Core.Path.{refl}

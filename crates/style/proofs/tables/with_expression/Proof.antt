@@ -1,3 +1,4 @@
+-- `with_expression` is the definition.
 use borrow.Author.Needs.{needs}
 use Rattle.style.proofs.tables.with_expression.Statement.{statement}
 use Rattle.style.proofs.tables.with_expression.Tie as tie

@@ -1,3 +1,4 @@
+-- `with_name` is the definition.
 use borrow.Author.Needs.{needs}
 use Rattle.style.proofs.tables.with_name.Statement.{statement}
 use Rattle.style.proofs.tables.with_name.Tie as tie

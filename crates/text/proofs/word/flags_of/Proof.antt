@@ -1,3 +1,4 @@
+-- `flags_of` is the word's number in its table, and what has that number.
 use borrow.Author.Needs.{needs}
 use Rattle.text.proofs.word.flags_of.Statement.{statement}
 use Rattle.text.proofs.word.flags_of.Tie as tie
