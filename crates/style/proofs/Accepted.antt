@@ -1,9 +1,9 @@
 -- Every expression of a style that a head gives was judged and checked, and by the names of that style: what lines add later changes no name that an expression before them has.
-use mathlib.Core.Path.{_≡_, refl, _∙_, ap, subst}
+use mathlib.Core.Path.{_≡_, refl, sym, _∙_, ap, subst}
 use mathlib.Core.Bool.{Bool, true, false, cond, false≢true}
 use mathlib.Core.List.{List, [], _∷_, _++_, map}
 use Prim.Native.Nat.{ℕ, suc}
-use native.Mathlib.Omega.{arith}
+use native.Mathlib.Nat.{zero-add}
 use borrow.Author.Tests.{eqb-true}
 use lib.Dec.{eqb, ltb}
 use lib.ListN.{length}
@@ -34,10 +34,13 @@ use Rattle.style.specs.Expression.{Judgement, byKinds, bySyntax, express
 use Rattle.style.specs.Expression as judged
 use Rattle.style.specs.Line.{Said, refused, adds, isNew, onExpression, onType, onFlags, propertyLine, defineLine, showLine, colourLine, conditionLine, lineBy, lineSaid}
 use Rattle.style.specs.Head.{gives, onLine, headFrom, headOf}
-use Rattle.style.specs.Accepted.{Stands, All, AllStand}
+use Rattle.style.specs.Tables.{Each}
+use Rattle.style.specs.Accepted.{Stands, AllStand}
 use Rattle.style.specs.declared.tables.Counts.{Counts}
-use Rattle.style.proofs.Law.Entries.{both, bare}
+use Rattle.style.proofs.Law.Entries.{bare}
+use Rattle.style.proofs.Law.Ladder.{both}
 use Rattle.style.proofs.Law.Loop.{styleIn, isGiven}
+use Rattle.style.proofs.Law.Rows.{each-map, each-more, each-none}
 
 -- ---- an expression that is accepted
 
@@ -79,17 +82,17 @@ stands c want s text e h =
 
 -- ---- lists
 
+abbrev All : {A : Type 0} → (A → Type 0) → List A → Type 0
+All P xs = Each (λ i x. P x) 0 xs
+
 all-more : {A : Type 0} (P : A → Type 0) (xs : List A) (x : A) → All P xs → P x → All P (xs ++ x ∷ [])
-all-more P [] x a p = (p, tt)
-all-more P (y ∷ xs) x a p = (a .0, all-more P xs x (a .1) p)
+all-more P xs x a p = each-more (λ i x. P x) 0 (length xs) xs x (sym (zero-add (length xs))) a p
 
 all-map : {A : Type 0} (P Q : A → Type 0) (xs : List A) → ((x : A) → P x → Q x) → All P xs → All Q xs
-all-map P Q [] f a = tt
-all-map P Q (x ∷ xs) f a = (f x (a .0), all-map P Q xs f (a .1))
+all-map P Q xs f a = each-map (λ i x. P x) (λ i x. Q x) 0 xs (λ k x low high p. f x p) a
 
 all-none : {A : Type 0} (P : A → Type 0) (xs : List A) → length xs ≡ 0 → All P xs
-all-none P [] h = tt
-all-none P (x ∷ xs) h = absurd (omega arith)
+all-none P xs h = each-none (λ i x. P x) 0 xs h
 
 -- ---- a style with what a line adds
 

@@ -28,7 +28,9 @@ use Rattle.style.specs.Expression.{expressionOf}
 use Rattle.style.specs.Expression as judged
 use Rattle.style.specs.Line.{Said, refused, adds, isNew, onExpression, onFlags, propertyLine, defineLine, showLine, colourLine, conditionLine, expression, lineSaid}
 use Rattle.style.specs.Head.{gives, headOf, answered}
-use Rattle.style.specs.Tables.{Laid, Counted, Holds}
+use Rattle.style.specs.Tables.{Laid, Counted, Holds, freshTables}
+use Rattle.style.specs.declared.check.Checked.{Checked}
+use Rattle.style.specs.declared.check.Checked.the-variants as checked
 use Rattle.style.specs.declared.tables.Counts.{Counts}
 use Rattle.style.specs.declared.tables.Tables.{Tables}
 use Rattle.style.specs.declared.entry.Entry.{Entry}
@@ -184,18 +186,6 @@ ReadBy head c starts ends sets line v r =
 
 -- ---- the tables
 
-unfoldable pub freshTables : Tables
-freshTables =
-    record {
-      counts = record { properties = 0; defines = 0; shows = 0; colours = 0; conditions = 0 };
-      starts = replicate 48 0;
-      ends = replicate 48 0;
-      sets = replicate 48 1;
-      froms = replicate 50 0;
-      tos = replicate 50 0;
-      roots = replicate 50 0;
-    }
-
 unfoldable pub withName : Tables → ℕ → ℕ → ℕ → ℕ → Tables
 withName t row start end k =
     record { counts = t .counts; starts = set (t .starts) row start; ends = set (t .ends) row end; sets = set (t .sets) row k; froms = t .froms; tos = t .tos; roots = t .roots }
@@ -258,3 +248,11 @@ withEntry t at r = withCounts (withRows t at r) (countedWith (t .counts) r)
 pub record LinesBy (head w v : List ℕ) (r : Compiled) : Type 0 where
   pub answer : r .answer ≡ answered (headOf head)
   pub kept : (s : Style) → headOf head ≡ gives s → Holds head v (r .tables) s (length head + 1)
+
+-- what a refused head has written is taken back
+abbrev pub Settled : Checked → Tables → List ℕ → List ℕ → Compiled → Type 0
+Settled (checked.Refused x) t w v r = (r ≡ record { answer = checked.Refused x; tables = freshTables }) × (v ≡ replicate (length w) 0)
+Settled checked.Accepted t w v r = (r ≡ record { answer = checked.Accepted; tables = t }) × (v ≡ w)
+
+abbrev pub SettledBy : Compiled → List ℕ → List ℕ → Compiled → Type 0
+SettledBy c w v r = Settled (c .answer) (c .tables) w v r

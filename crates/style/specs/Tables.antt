@@ -2,7 +2,7 @@
 use mathlib.Core.Path.{_≡_}
 use mathlib.Core.List.{List, [], _∷_}
 use Prim.Native.Nat.{ℕ, suc, _+_, _*_, _<_, _≤_}
-use lib.ListN.{length, getD}
+use lib.ListN.{length, getD, replicate}
 use lib.Seq.{slice}
 use Rattle.kind.specs.Set.{singleOf}
 use Rattle.kind.specs.declared.kind.Kind.the-variants.{Undefined}
@@ -14,9 +14,9 @@ use Rattle.checker.specs.Property.{propertyKinds, setAt}
 use Rattle.checker.specs.declared.name.Scope.{Scope}
 use Rattle.checker.specs.declared.name.Scope.the-variants as scope
 use Rattle.style.specs.Style.{Declared, Expression, Define, Condition, Style}
-use Rattle.style.specs.Head.{gives, headOf, roomSize, checkedOf}
-use Rattle.style.specs.declared.check.Checked.the-variants.{Accepted}
-use Rattle.style.specs.declared.head.Compiled.{Compiled}
+use Rattle.style.specs.Head.{gives, headOf, roomSize, roomAfter}
+use Rattle.style.specs.declared.check.Checked.{Checked}
+use Rattle.style.specs.declared.check.Checked.the-variants.{Accepted, Refused}
 use Rattle.style.specs.declared.tables.Counts.{Counts}
 use Rattle.style.specs.declared.tables.Tables.{Tables}
 
@@ -61,6 +61,13 @@ abbrev pub Held : Scope → List ℕ → List ℕ → Tables → ℕ → ℕ →
 Held scope head room t at row e =
     (getD (t .tos) row 0 ≤ at) × Laid (numberOf scope head (t .starts) (t .ends)) head room (getD (t .froms) row 0) (getD (t .tos) row 0) (getD (t .roots) row 0) e
 
+-- an expression of `show`, `color` or `cond` begins behind the end of every define's
+abbrev pub Behind : Tables → Style → ℕ → Type 0
+Behind t s row = (i : ℕ) → i < length (s .defines) → getD (t .tos) i 0 ≤ getD (t .froms) row 0
+
+abbrev pub StyleHeld : List ℕ → List ℕ → Tables → Style → ℕ → ℕ → Expression → Type 0
+StyleHeld head room t s at row e = Held scope.Style head room t at row e × Behind t s row
+
 -- ---- all of them
 
 pub record Counted (c : Counts) (s : Style) : Type 0 where
@@ -95,9 +102,9 @@ pub record Expressed (head room : List ℕ) (t : Tables) (s : Style) (at : ℕ) 
   pub few-colours : length (s .colours) ≤ 1
   pub few-conditions : length (s .conditions) ≤ 16
   pub defines : Each (λ i (d : Define). Held scope.Define head room t at i (d .expression)) 0 (s .defines)
-  pub shows : Each (λ i (e : Expression). Held scope.Style head room t at (16 + i) e) 0 (s .shows)
-  pub colours : Each (λ i (e : Expression). Held scope.Style head room t at (17 + i) e) 0 (s .colours)
-  pub conditions : Each (λ i (c : Condition). Held scope.Style head room t at (18 + 2 * i) (c .test) × Held scope.Style head room t at (19 + 2 * i) (c .colour)) 0 (s .conditions)
+  pub shows : Each (λ i (e : Expression). StyleHeld head room t s at (16 + i) e) 0 (s .shows)
+  pub colours : Each (λ i (e : Expression). StyleHeld head room t s at (17 + i) e) 0 (s .colours)
+  pub conditions : Each (λ i (c : Condition). StyleHeld head room t s at (18 + 2 * i) (c .test) × StyleHeld head room t s at (19 + 2 * i) (c .colour)) 0 (s .conditions)
 
 pub record Holds (head room : List ℕ) (t : Tables) (s : Style) (at : ℕ) : Type 0 where
   pub counted : Counted (t .counts) s
@@ -105,8 +112,21 @@ pub record Holds (head room : List ℕ) (t : Tables) (s : Style) (at : ℕ) : Ty
   pub named : Named head t s
   pub expressed : Expressed head room t s at
 
--- What a head leaves: its answer; a room that is too small as it came; and what an accepted head gives, in the tables and the room.
-pub record Compiles (head room after : List ℕ) (r : Compiled) : Type 0 where
-  pub answer : r .answer ≡ checkedOf (length room) head
-  pub untouched : length room < roomSize → after ≡ room
-  pub kept : (s : Style) → r .answer ≡ Accepted → headOf head ≡ gives s → Holds head after (r .tables) s (length head + 1)
+-- no line yet; 1 is the byte of Undefined alone
+unfoldable pub freshTables : Tables
+freshTables =
+    record {
+      counts = record { properties = 0; defines = 0; shows = 0; colours = 0; conditions = 0 };
+      starts = replicate 48 0;
+      ends = replicate 48 0;
+      sets = replicate 48 1;
+      froms = replicate 50 0;
+      tos = replicate 50 0;
+      roots = replicate 50 0;
+    }
+
+-- What a head leaves. If it is refused there are no tables, and the room is zero or, under 10, as it came; if it is accepted it gives a style, which tables and room hold.
+abbrev pub Leaves : Checked → List ℕ → List ℕ → List ℕ → Tables → Type 0
+Leaves (Refused x) head room after t = (t ≡ freshTables) × (after ≡ roomAfter room)
+Leaves Accepted head room after t =
+    (s : Style) × (headOf head ≡ gives s) × (roomSize ≤ length room) × (length head ≤ 32768) × (length after ≡ length room) × Holds head after t s (length head + 1)

@@ -2,7 +2,6 @@
 ghost use mathlib.Core.Path.{_≡_};
 ghost use lib.ListN.{length};
 ghost use Rattle.style.specs.Head.{checkedOf, roomAfter};
-use crate::head::ROOM_SIZE;
 use crate::head::compile;
 use syntax::judge::clear;
 
@@ -25,8 +24,12 @@ pub fn check(head: &[u8], room: &mut [u16]) -> Checked
     ensures zero { λ _. ⌜ now (room .exit) ≡ roomAfter (now (room .entry)) ⌝ }
 {
     let compiled = compile(head, room);
-    if ROOM_SIZE <= room.len() {
-        clear(room);
+    let answer = compiled.answer;
+    match answer {
+        Checked::Accepted => {
+            clear(room);
+            Checked::Accepted
+        }
+        Checked::Refused(refusal) => Checked::Refused(refusal),
     }
-    compiled.answer
 }

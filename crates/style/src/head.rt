@@ -2,15 +2,16 @@
 ghost use mathlib.Core.Path.{_≡_};
 ghost use Prim.Native.Nat.{_≤_};
 ghost use lib.ListN.{length};
-ghost use Rattle.style.specs.Head.{refusal};
-ghost use Rattle.style.specs.Inner.{LinesBy};
-ghost use Rattle.style.specs.Tables.{Compiles};
+ghost use Rattle.style.specs.Head.{refusal, checkedOf};
+ghost use Rattle.style.specs.Inner.{LinesBy, SettledBy};
+ghost use Rattle.style.specs.Tables.{Leaves};
 use crate::check::Checked;
 use crate::check::Refusal;
 use crate::entry;
 use crate::line::read;
 use crate::tables;
 use crate::tables::Tables;
+use syntax::judge::clear;
 use text::part;
 use text::part::LINE_FEED;
 
@@ -71,10 +72,29 @@ fn read_lines(head: &[u8], room: &mut [u16]) -> Compiled
     }
 }
 
+// What a refused head has written is taken back.
+fn settled(compiled: Compiled, room: &mut [u16]) -> Compiled
+    ensures { λ r. ⌜ SettledBy compiled (now (room .entry)) (now (room .exit)) r ⌝ }
+{
+    let answer = compiled.answer;
+    match answer {
+        Checked::Accepted => compiled,
+        Checked::Refused(refusal) => {
+            clear(room);
+            Compiled {
+                answer: Checked::Refused(refusal),
+                tables: tables::fresh(),
+            }
+        }
+    }
+}
+
 // Checks a head and keeps what it gives: where its names and expressions lie, and the trees of the
-// expressions in the room.
+// expressions in the room. After a refusal there is nothing to keep, and the room is zero; one that is
+// too small stays as it is.
 pub fn compile(head: &[u8], room: &mut [u16]) -> Compiled
-    ensures { λ r. ⌜ Compiles (now (head .entry)) (now (room .entry)) (now (room .exit)) r ⌝ }
+    ensures answer { λ r. ⌜ r .answer ≡ checkedOf (length (now (room .entry))) (now (head .entry)) ⌝ }
+    ensures leaves { λ r. ⌜ Leaves (r .answer) (now (head .entry)) (now (room .entry)) (now (room .exit)) (r .tables) ⌝ }
 {
     if room.len() < ROOM_SIZE {
         return Compiled {
@@ -83,10 +103,12 @@ pub fn compile(head: &[u8], room: &mut [u16]) -> Compiled
         };
     }
     if MOST_BYTES < head.len() {
+        clear(room);
         return Compiled {
             answer: refusal(1, 0, MOST_BYTES),
             tables: tables::fresh(),
         };
     }
-    read_lines(head, room)
+    let compiled = read_lines(head, room);
+    settled(compiled, room)
 }

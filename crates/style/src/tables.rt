@@ -1,7 +1,8 @@
 // What an accepted head gives, by places in it.
 ghost use mathlib.Core.Path.{_≡_};
 ghost use Prim.Native.Nat.{_<_};
-ghost use Rattle.style.specs.Inner.{freshTables, withName, withExpression, withCounts};
+ghost use Rattle.style.specs.Inner.{withName, withExpression, withCounts};
+ghost use Rattle.style.specs.Tables.{freshTables};
 
 // How many lines of each word there are.
 pub struct Counts {
@@ -34,7 +35,8 @@ pub(crate) const COLOUR: usize = 17;
 
 pub(crate) const FIRST_CONDITION: usize = 18;
 
-// No line yet. A row without a name has the kinds of an undeclared name.
+// No line yet. A row without a name has the kinds of an undeclared name: 1 is the byte of Undefined
+// alone.
 pub(crate) fn fresh() -> Tables
     ensures { λ r. ⌜ r ≡ freshTables ⌝ }
 {

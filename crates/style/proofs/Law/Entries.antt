@@ -1,8 +1,9 @@
 -- The tables with a line's entry hold the style with what the line adds.
 use mathlib.Core.Path.{_≡_, refl, sym, _∙_, ap, subst}
-use mathlib.Core.Bool.{Bool, true, false, _&&_, false≢true}
+use mathlib.Core.Bool.{true, false, _&&_, false≢true}
 use mathlib.Core.List.{List, [], _∷_}
 use Prim.Native.Nat.{ℕ, _+_, _-_, _*_, _<_, _≤_}
+use native.Mathlib.Nat.{zero-add}
 use native.Mathlib.Omega.{arith}
 use borrow.Author.Tests.{ltb-true, eqb-true}
 use lib.Dec.{eqb, ltb}
@@ -20,14 +21,15 @@ use Rattle.text.specs.declared.word.Line.the-variants as word
 use Rattle.text.proofs.Slices.{slice-slice, put-left, put-there}
 use Rattle.style.specs.Style.{Declared, Expression, Define, Condition, Style, property, define, show, colour, condition, with, admits}
 use Rattle.style.specs.Style as style
-use Rattle.style.specs.Tables.{Each, Row, Free, Laid, Held, Counted, Sized, Holds}
+use Rattle.style.specs.Tables.{Each, Row, Free, Laid, Held, StyleHeld, Counted, Sized, Holds}
 use Rattle.style.specs.Inner.{isRefused, NameLies, Says, Of, Admitted, withName, withExpression, withCounts, withEntry}
 use Rattle.style.specs.Line.{Said, adds}
 use Rattle.style.specs.declared.entry.Entry.{Entry}
 use Rattle.style.specs.declared.entry.Entry.the-variants as entry
 use Rattle.style.specs.declared.tables.Counts.{Counts}
 use Rattle.style.specs.declared.tables.Tables.{Tables}
-use Rattle.style.proofs.Law.Rows.{each-map, each-more, each-none, length-more, name-other, name-same, set-other, set-same, property-numbers}
+use Rattle.style.proofs.Law.Ladder.{both}
+use Rattle.style.proofs.Law.Rows.{each-map, each-more, each-none, each-at, length-more, name-other, name-same, set-other, set-same, property-numbers}
 
 -- ---- which lines may stand there
 
@@ -36,10 +38,6 @@ pub record Bare (c : Counts) : Type 0 where
   pub shows : c .shows ≡ 0
   pub colours : c .colours ≡ 0
   pub conditions : c .conditions ≡ 0
-
-pub both : (a b : Bool) → a && b ≡ true → (a ≡ true) × (b ≡ true)
-both true b h = (refl, h)
-both false b h = (h, absurd (false≢true h))
 
 pub bare : (c : Counts) → (eqb (c .shows) 0 && (eqb (c .colours) 0 && eqb (c .conditions) 0)) ≡ true → Bare c
 bare c h =
@@ -333,6 +331,9 @@ module _ (head room : List ℕ) (at end : ℕ) (u : List ℕ) (order : at ≤ en
               };
         }
 
+    abbrev Conditioned : List ℕ → Tables → ℕ → ℕ → Condition → Type 0
+    Conditioned room t at i x = StyleHeld head room t s at (18 + 2 * i) (x .test) × StyleHeld head room t s at (19 + 2 * i) (x .colour)
+
     -- the expressions before, where rows of expressions alone are set
     defines-before : (t′ : Tables) → t′ .starts ≡ t .starts → t′ .ends ≡ t .ends → ((i : ℕ) → i < 16 → Kept t t′ i) →
         Each (λ i (d : Define). Held scope.Define head after t′ (end + 1) i (d .expression)) 0 (s .defines)
@@ -341,35 +342,49 @@ module _ (head room : List ℕ) (at end : ℕ) (u : List ℕ) (order : at ≤ en
         (λ k d low high y. held-before scope.Define t t′ k (d .expression) (λ i. numberOf scope.Define head (a i) (b i)) (kept k (omega (arith, high, h .named .few-defines))) y)
         (h .expressed .defines)
 
-    shows-before : (t′ : Tables) → t′ .starts ≡ t .starts → t′ .ends ≡ t .ends → Kept t t′ 16 → Each (λ i (e : Expression). Held scope.Style head after t′ (end + 1) (16 + i) e) 0 (s .shows)
-    shows-before t′ a b kept =
-        each-map (λ i (e : Expression). Held scope.Style head room t at (16 + i) e) (λ i (e : Expression). Held scope.Style head after t′ (end + 1) (16 + i) e) 0 (s .shows)
-        (λ k e low high y.
-        let z : 16 ≡ 16 + k = omega (arith, high, h .expressed .few-shows) in
-        held-before scope.Style t t′ (16 + k) e (λ i. numberOf scope.Style head (a i) (b i)) (subst (Kept t t′) z kept) y)
-        (h .expressed .shows)
+    -- the other expressions begin behind those of the defines
+    define-ends : (i : ℕ) → i < length (s .defines) → getD (t .tos) i 0 ≤ at
+    define-ends i l =
+        let x = each-at (λ i (d : Define). Held scope.Define head room t at i (d .expression)) 0 (s .defines) (h .expressed .defines) i l in
+        subst (λ (k : ℕ). getD (t .tos) k 0 ≤ at) (zero-add i) (x .1 .0)
 
-    colours-before : (t′ : Tables) → t′ .starts ≡ t .starts → t′ .ends ≡ t .ends → Kept t t′ 17 → Each (λ i (e : Expression). Held scope.Style head after t′ (end + 1) (17 + i) e) 0 (s .colours)
-    colours-before t′ a b kept =
-        each-map (λ i (e : Expression). Held scope.Style head room t at (17 + i) e) (λ i (e : Expression). Held scope.Style head after t′ (end + 1) (17 + i) e) 0 (s .colours)
-        (λ k e low high y.
-        let z : 17 ≡ 17 + k = omega (arith, high, h .expressed .few-colours) in
-        held-before scope.Style t t′ (17 + k) e (λ i. numberOf scope.Style head (a i) (b i)) (subst (Kept t t′) z kept) y)
-        (h .expressed .colours)
+    module _ (t′ : Tables) (a : t′ .starts ≡ t .starts) (b : t′ .ends ≡ t .ends) (kept : (i : ℕ) → i < 16 → Kept t t′ i) where
+      style-before : (row : ℕ) (e : Expression) → Kept t t′ row → StyleHeld head room t s at row e → StyleHeld head after t′ s (end + 1) row e
+      style-before row e k y = (
+        held-before scope.Style t t′ row e (λ i. numberOf scope.Style head (a i) (b i)) k (y .0),
+        λ i l. omega (arith, kept i (omega (arith, l, h .named .few-defines)) .1, k .0, y .1 i l),
+      )
 
-    abbrev Conditioned : List ℕ → Tables → ℕ → ℕ → Condition → Type 0
-    Conditioned room t at i x = Held scope.Style head room t at (18 + 2 * i) (x .test) × Held scope.Style head room t at (19 + 2 * i) (x .colour)
+      style-here : (row p q r : ℕ) (e : Expression) → Set t′ row (at + p) (at + q) r →
+          Laid (numberOf scope.Style head (t .starts) (t .ends)) (slice at end head) u p q r e → StyleHeld head after t′ s (end + 1) row e
+      style-here row p q r e k l = (
+        held-here scope.Style t t′ row p q r e (λ i. numberOf scope.Style head (a i) (b i)) k l,
+        λ i m. omega (arith, kept i (omega (arith, m, h .named .few-defines)) .1, k .from, define-ends i m),
+      )
 
-    conditions-before : (t′ : Tables) → t′ .starts ≡ t .starts → t′ .ends ≡ t .ends → ((i : ℕ) → i < length (s .conditions) → Kept t t′ (18 + 2 * i) × Kept t t′ (19 + 2 * i)) →
-        Each (Conditioned after t′ (end + 1)) 0 (s .conditions)
-    conditions-before t′ a b kept =
-        each-map (Conditioned room t at) (Conditioned after t′ (end + 1)) 0 (s .conditions)
-        (λ k x low high y.
-        let z = kept k (omega (arith, high)) in (
-          held-before scope.Style t t′ (18 + 2 * k) (x .test) (λ i. numberOf scope.Style head (a i) (b i)) (z .0) (y .0),
-          held-before scope.Style t t′ (19 + 2 * k) (x .colour) (λ i. numberOf scope.Style head (a i) (b i)) (z .1) (y .1),
-        ))
-        (h .expressed .conditions)
+      shows-before : Kept t t′ 16 → Each (λ i (e : Expression). StyleHeld head after t′ s (end + 1) (16 + i) e) 0 (s .shows)
+      shows-before k =
+          each-map (λ i (e : Expression). StyleHeld head room t s at (16 + i) e) (λ i (e : Expression). StyleHeld head after t′ s (end + 1) (16 + i) e) 0 (s .shows)
+          (λ i e low high y.
+          let z : 16 ≡ 16 + i = omega (arith, high, h .expressed .few-shows) in
+          style-before (16 + i) e (subst (Kept t t′) z k) y)
+          (h .expressed .shows)
+
+      colours-before : Kept t t′ 17 → Each (λ i (e : Expression). StyleHeld head after t′ s (end + 1) (17 + i) e) 0 (s .colours)
+      colours-before k =
+          each-map (λ i (e : Expression). StyleHeld head room t s at (17 + i) e) (λ i (e : Expression). StyleHeld head after t′ s (end + 1) (17 + i) e) 0 (s .colours)
+          (λ i e low high y.
+          let z : 17 ≡ 17 + i = omega (arith, high, h .expressed .few-colours) in
+          style-before (17 + i) e (subst (Kept t t′) z k) y)
+          (h .expressed .colours)
+
+      conditions-before : ((i : ℕ) → i < length (s .conditions) → Kept t t′ (18 + 2 * i) × Kept t t′ (19 + 2 * i)) → Each (Conditioned after t′ (end + 1)) 0 (s .conditions)
+      conditions-before k =
+          each-map (Conditioned room t at) (Conditioned after t′ (end + 1)) 0 (s .conditions)
+          (λ i x low high y.
+          let z = k i (omega (arith, high)) in
+          (style-before (18 + 2 * i) (x .test) (z .0) (y .0), style-before (19 + 2 * i) (x .colour) (z .1) (y .1)))
+          (h .expressed .conditions)
 
     -- `show` and `color` stand in rows of their own
     module _ (row p q r : ℕ) (low : 16 ≤ row) (high : row ≤ 17) where
@@ -379,21 +394,24 @@ module _ (head room : List ℕ) (at end : ℕ) (u : List ℕ) (order : at ≤ en
       single-kept : (i : ℕ) → (i ≡ row → ⊥) → Kept t single i
       single-kept = kept-other t row (at + p) (at + q) r
 
+      single-low : (i : ℕ) → i < 16 → Kept t single i
+      single-low i l = single-kept i (λ e. omega (arith, e, l, low))
+
       single-sized : (n : Counts) → Sized (withCounts single n)
       single-sized n = recounted single n (sized-expression t row (at + p) (at + q) r (h .sized))
 
       single-defines : Each (λ i (d : Define). Held scope.Define head after single (end + 1) i (d .expression)) 0 (s .defines)
       unfolding withExpression
-      single-defines = defines-before single refl refl (λ i l. single-kept i (λ e. omega (arith, e, l, low)))
+      single-defines = defines-before single refl refl single-low
 
       single-conditions : Each (Conditioned after single (end + 1)) 0 (s .conditions)
       unfolding withExpression
       single-conditions =
-          conditions-before single refl refl (λ i l. (single-kept (18 + 2 * i) (λ e. omega (arith, e, high)), single-kept (19 + 2 * i) (λ e. omega (arith, e, high))))
+          conditions-before single refl refl single-low (λ i l. (single-kept (18 + 2 * i) (λ e. omega (arith, e, high)), single-kept (19 + 2 * i) (λ e. omega (arith, e, high))))
 
-      single-held : (e : Expression) → Laid (numberOf scope.Style head (t .starts) (t .ends)) (slice at end head) u p q r e → Held scope.Style head after single (end + 1) row e
+      single-held : (e : Expression) → Laid (numberOf scope.Style head (t .starts) (t .ends)) (slice at end head) u p q r e → StyleHeld head after single s (end + 1) row e
       unfolding withExpression
-      single-held e = held-here scope.Style t single row p q r e refl (set-there t row (at + p) (at + q) r (h .sized) (omega (arith, high)))
+      single-held e = style-here single refl refl single-low row p q r e (set-there t row (at + p) (at + q) r (h .sized) (omega (arith, high)))
 
     show-held : (p q r : ℕ) (e : Expression) → admits word.Show (c .properties) (c .defines) (c .shows) (c .colours) (c .conditions) ≡ true →
         Laid (numberOf scope.Style head (t .starts) (t .ends)) (slice at end head) u p q r e →
@@ -416,10 +434,10 @@ module _ (head room : List ℕ) (at end : ℕ) (u : List ℕ) (order : at ≤ en
                 few-conditions = h .expressed .few-conditions;
                 defines = single-defines 16 p q r (omega arith) (omega arith);
                 shows =
-                    each-more (λ i (e : Expression). Held scope.Style head after (single 16 p q r (omega arith) (omega arith)) (end + 1) (16 + i) e) 0 0 (s .shows) e (omega (arith, m, none))
+                    each-more (λ i (e : Expression). StyleHeld head after (single 16 p q r (omega arith) (omega arith)) s (end + 1) (16 + i) e) 0 0 (s .shows) e (omega (arith, m, none))
                     (each-none _ 0 (s .shows) (omega (arith, m, none)))
                     (single-held 16 p q r (omega arith) (omega arith) e laid);
-                colours = colours-before (single 16 p q r (omega arith) (omega arith)) refl refl (single-kept 16 p q r (omega arith) (omega arith) 17 (λ e. omega (arith, e)));
+                colours = colours-before (single 16 p q r (omega arith) (omega arith)) refl refl (single-low 16 p q r (omega arith) (omega arith)) (single-kept 16 p q r (omega arith) (omega arith) 17 (λ e. omega (arith, e)));
                 conditions = single-conditions 16 p q r (omega arith) (omega arith);
               };
         }
@@ -444,9 +462,9 @@ module _ (head room : List ℕ) (at end : ℕ) (u : List ℕ) (order : at ≤ en
                 few-colours = omega (arith, l, m, none);
                 few-conditions = h .expressed .few-conditions;
                 defines = single-defines 17 p q r (omega arith) (omega arith);
-                shows = shows-before (single 17 p q r (omega arith) (omega arith)) refl refl (single-kept 17 p q r (omega arith) (omega arith) 16 (λ e. omega (arith, e)));
+                shows = shows-before (single 17 p q r (omega arith) (omega arith)) refl refl (single-low 17 p q r (omega arith) (omega arith)) (single-kept 17 p q r (omega arith) (omega arith) 16 (λ e. omega (arith, e)));
                 colours =
-                    each-more (λ i (e : Expression). Held scope.Style head after (single 17 p q r (omega arith) (omega arith)) (end + 1) (17 + i) e) 0 0 (s .colours) e (omega (arith, m, none))
+                    each-more (λ i (e : Expression). StyleHeld head after (single 17 p q r (omega arith) (omega arith)) s (end + 1) (17 + i) e) 0 0 (s .colours) e (omega (arith, m, none))
                     (each-none _ 0 (s .colours) (omega (arith, m, none)))
                     (single-held 17 p q r (omega arith) (omega arith) e laid);
                 conditions = single-conditions 17 p q r (omega arith) (omega arith);
@@ -471,6 +489,7 @@ module _ (head room : List ℕ) (at end : ℕ) (u : List ℕ) (order : at ≤ en
         let l = length-more (s .conditions) x in
         let kept : (i : ℕ) → (i ≡ 18 + 2 * n → ⊥) → (i ≡ 18 + 2 * n + 1 → ⊥) → Kept t t′ i =
         λ i a b. kept-both t t₁ t′ i (kept-other t (18 + 2 * n) (at + p) (at + q) r i a) (kept-other t₁ (18 + 2 * n + 1) (at + p′) (at + q′) r′ i b) in
+        let low : (i : ℕ) → i < 16 → Kept t t′ i = λ i l. kept i (λ e. omega (arith, e, l)) (λ e. omega (arith, e, l)) in
         let z = set-there t (18 + 2 * n) (at + p) (at + q) r (h .sized) (omega (arith, few)) in
         let first : Set t′ (18 + 2 * n) (at + p) (at + q) r = set-kept t₁ t′ (18 + 2 * n) (at + p) (at + q) r (kept-other t₁ (18 + 2 * n + 1) (at + p′) (at + q′) r′ (18 + 2 * n) (λ e. omega (arith, e))) z in
         let second : Set t′ (18 + 2 * n + 1) (at + p′) (at + q′) r′ =
@@ -485,15 +504,15 @@ module _ (head room : List ℕ) (at end : ℕ) (u : List ℕ) (order : at ≤ en
                 few-shows = h .expressed .few-shows;
                 few-colours = h .expressed .few-colours;
                 few-conditions = omega (arith, l, m, few);
-                defines = defines-before t′ refl refl (λ i low. kept i (λ e. omega (arith, e, low)) (λ e. omega (arith, e, low)));
-                shows = shows-before t′ refl refl (kept 16 (λ e. omega (arith, e)) (λ e. omega (arith, e)));
+                defines = defines-before t′ refl refl low;
+                shows = shows-before t′ refl refl low (kept 16 (λ e. omega (arith, e)) (λ e. omega (arith, e)));
                 colours = each-none _ 0 (s .colours) (omega (arith, counts .colours, eqb-true (c .colours) 0 (y .1)));
                 conditions =
                     each-more (Conditioned after t′ (end + 1)) 0 n (s .conditions) x (omega (arith, m))
-                    (conditions-before t′ refl refl (λ i low.
-                    (kept (18 + 2 * i) (λ e. omega (arith, e, low, m)) (λ e. omega (arith, e, low, m)), kept (19 + 2 * i) (λ e. omega (arith, e, low, m)) (λ e. omega (arith, e, low, m))))) (
-                      held-here scope.Style t t′ (18 + 2 * n) p q r (x .test) refl first laid,
-                      held-here scope.Style t t′ (19 + 2 * n) p′ q′ r′ (x .colour) refl (subst (λ (i : ℕ). Set t′ i (at + p′) (at + q′) r′) next second) laid′,
+                    (conditions-before t′ refl refl low (λ i l.
+                    (kept (18 + 2 * i) (λ e. omega (arith, e, l, m)) (λ e. omega (arith, e, l, m)), kept (19 + 2 * i) (λ e. omega (arith, e, l, m)) (λ e. omega (arith, e, l, m))))) (
+                      style-here t′ refl refl low (18 + 2 * n) p q r (x .test) first laid,
+                      style-here t′ refl refl low (19 + 2 * n) p′ q′ r′ (x .colour) (subst (λ (i : ℕ). Set t′ i (at + p′) (at + q′) r′) next second) laid′,
                     );
               };
         }

@@ -1,6 +1,6 @@
 -- A line of each word: what a return of its function says.
 use mathlib.Core.Path.{_≡_, refl, sym, _∙_, ap, subst}
-use mathlib.Core.Bool.{Bool, true, false, _&&_, false≢true}
+use mathlib.Core.Bool.{Bool, true, false, false≢true}
 use mathlib.Core.List.{List, map}
 use Prim.Native.Nat.{ℕ, _-_, _<_}
 use native.Mathlib.Omega.{arith}
@@ -38,12 +38,8 @@ use Rattle.style.specs.declared.entry.Entry.{Entry}
 use Rattle.style.specs.declared.entry.Entry.the-variants as entry
 use Rattle.style.specs.declared.expression.Field.{Field}
 use Rattle.style.specs.declared.expression.Field.the-variants as field-of
-use Rattle.style.proofs.Law.Ladder.{taken, passed}
+use Rattle.style.proofs.Law.Ladder.{taken, passed, both}
 use Rattle.style.proofs.Law.Expressions.{part-lies, part-text}
-
-both : (a b : Bool) → a && b ≡ true → a ≡ true
-both true b h = refl
-both false b h = h
 
 -- ---- `prop`
 
@@ -115,7 +111,7 @@ module _ (head starts ends line : List ℕ) where
           named : (sets : List ℕ) (s : Style) → Reads head starts ends sets s → NameLies line (p .start) (p .end) (field line 1)
           named sets s reads =
               let l = part-lies line 1 (omega arith) p is in
-              record { order = l .order; inside = l .inside; is = l .is; right = both (isName (field line 1)) _ (name-new sets s reads ∙ fresh) }
+              record { order = l .order; inside = l .inside; is = l .is; right = both (isName (field line 1)) _ (name-new sets s reads ∙ fresh) .0 }
 
 -- ---- an expression of a line
 
@@ -162,7 +158,7 @@ module _ (head starts ends sets line : List ℕ) where
           by .0,
           λ s reads.
               subst (Says head starts ends line v r) (sym (taken _ (eq-eqb _ _ three) (taken _ (define-new s reads ∙ fresh) refl)))
-              (by .1 s reads (field line 1) (record { order = l .order; inside = l .inside; is = l .is; right = both (isName (field line 1)) _ (define-new s reads ∙ fresh) })),
+              (by .1 s reads (field line 1) (record { order = l .order; inside = l .inside; is = l .is; right = both (isName (field line 1)) _ (define-new s reads ∙ fresh) .0 })),
         )
 
 -- its expression

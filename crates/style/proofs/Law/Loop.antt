@@ -21,8 +21,9 @@ use Rattle.text.proofs.Slices.{put-length}
 use Rattle.style.specs.Style.{Expression, Define, Condition, Style, empty, with, admits}
 use Rattle.style.specs.Line.{Said, refused, lineSaid}
 use Rattle.style.specs.Head.{Headed, refusedAt, gives, onLine, headFrom, headOf, answered, refusal, checkedOf, roomAfter}
-use Rattle.style.specs.Tables.{FreeRow, Held, Expressed, Holds, Compiles}
-use Rattle.style.specs.Inner.{Says, Admitted, ReadBy, Fits, Within, isRefused, numberIn, placeIn, freshTables, withEntry, LinesBy}
+use Rattle.style.specs.Tables.{FreeRow, Held, StyleHeld, Expressed, Holds, freshTables, Leaves}
+use Rattle.style.specs.Inner.{Says, Admitted, ReadBy, Fits, Within, isRefused, numberIn, placeIn, withEntry, LinesBy, Settled, SettledBy}
+use Rattle.style.specs.declared.check.Refusal.{Refusal}
 use Rattle.style.specs.declared.check.Checked.{Checked}
 use Rattle.style.specs.declared.check.Checked.the-variants as checked
 use Rattle.style.specs.declared.entry.Entry.{Entry}
@@ -31,8 +32,8 @@ use Rattle.style.specs.declared.head.Compiled.{Compiled}
 use Rattle.style.specs.declared.tables.Counts.{Counts}
 use Rattle.style.specs.declared.tables.Tables.{Tables}
 use Rattle.style.proofs.Law.Rows.{each-map}
-use Rattle.style.proofs.Law.Entries.{both, admitted, entry-held}
-use Rattle.style.proofs.Law.Ladder.{taken, passed}
+use Rattle.style.proofs.Law.Entries.{admitted, entry-held}
+use Rattle.style.proofs.Law.Ladder.{taken, passed, both}
 use Rattle.style.proofs.Law.Names.{reads}
 
 -- ---- no line yet
@@ -181,12 +182,12 @@ further head room t s at to l h =
             few-colours = x .few-colours;
             few-conditions = x .few-conditions;
             defines = each-map (λ i (d : Define). Held scope.Define head room t at i (d .expression)) (λ i (d : Define). Held scope.Define head room t to i (d .expression)) 0 (s .defines) (λ k d low high y. wider scope.Define k (d .expression) y) (x .defines);
-            shows = each-map (λ i (e : Expression). Held scope.Style head room t at (16 + i) e) (λ i (e : Expression). Held scope.Style head room t to (16 + i) e) 0 (s .shows) (λ k e low high y. wider scope.Style (16 + k) e y) (x .shows);
-            colours = each-map (λ i (e : Expression). Held scope.Style head room t at (17 + i) e) (λ i (e : Expression). Held scope.Style head room t to (17 + i) e) 0 (s .colours) (λ k e low high y. wider scope.Style (17 + k) e y) (x .colours);
+            shows = each-map (λ i (e : Expression). StyleHeld head room t s at (16 + i) e) (λ i (e : Expression). StyleHeld head room t s to (16 + i) e) 0 (s .shows) (λ k e low high y. (wider scope.Style (16 + k) e (y .0), y .1)) (x .shows);
+            colours = each-map (λ i (e : Expression). StyleHeld head room t s at (17 + i) e) (λ i (e : Expression). StyleHeld head room t s to (17 + i) e) 0 (s .colours) (λ k e low high y. (wider scope.Style (17 + k) e (y .0), y .1)) (x .colours);
             conditions =
-                each-map (λ i (c : Condition). Held scope.Style head room t at (18 + 2 * i) (c .test) × Held scope.Style head room t at (19 + 2 * i) (c .colour))
-                (λ i (c : Condition). Held scope.Style head room t to (18 + 2 * i) (c .test) × Held scope.Style head room t to (19 + 2 * i) (c .colour)) 0 (s .conditions)
-                (λ k c low high y. (wider scope.Style (18 + 2 * k) (c .test) (y .0), wider scope.Style (19 + 2 * k) (c .colour) (y .1)))
+                each-map (λ i (c : Condition). StyleHeld head room t s at (18 + 2 * i) (c .test) × StyleHeld head room t s at (19 + 2 * i) (c .colour))
+                (λ i (c : Condition). StyleHeld head room t s to (18 + 2 * i) (c .test) × StyleHeld head room t s to (19 + 2 * i) (c .colour)) 0 (s .conditions)
+                (λ k c low high y. ((wider scope.Style (18 + 2 * k) (c .test) (y .0 .0), y .0 .1), (wider scope.Style (19 + 2 * k) (c .colour) (y .1 .0), y .1 .1)))
                 (x .conditions);
           };
     }
@@ -224,42 +225,67 @@ module _ (head w v : List ℕ) where
         kept = λ s g. subst (λ (s : Style). Holds head v t s (length head + 1)) (ap (λ x. styleIn x s) (sym all ∙ g)) (further head v t (f .s) at (length head + 1) (f .inside) (f .holds));
       }
 
+-- ---- what is left of it
+
+pub settled-kept : (c : Compiled) (w : List ℕ) → c .answer ≡ checked.Accepted → SettledBy c w w c
+settled-kept c w e = subst (λ a. Settled a (c .tables) w w c) (sym e) (λ i. record { answer = e i; tables = c .tables }, refl)
+
+pub settled-cleared : (c : Compiled) (w v : List ℕ) (x : Refusal) (t : Tables) → c .answer ≡ checked.Refused x → t ≡ freshTables → v ≡ replicate (length w) 0 →
+    SettledBy c w v (record { answer = checked.Refused x; tables = t })
+settled-cleared c w v x t e f z =
+    subst (λ a. Settled a (c .tables) w v (record { answer = checked.Refused x; tables = t })) (sym e) (ap (λ (t : Tables). record { answer = checked.Refused x; tables = t }) f, z)
+
 -- ---- the whole call
 
+abbrev WholeBy : List ℕ → List ℕ → List ℕ → Compiled → Type 0
+WholeBy head room after r = (r .answer ≡ checkedOf (length room) head) × Leaves (r .answer) head room after (r .tables)
+
 module _ (head room : List ℕ) where
-  pub too-small : (a : Checked) (t : Tables) → length room < 32768 → a ≡ refusal 10 0 0 → Compiles head room room (record { answer = a; tables = t })
+  pub too-small : (a : Checked) (t : Tables) → length room < 32768 → a ≡ refusal 10 0 0 → t ≡ freshTables → WholeBy head room room (record { answer = a; tables = t })
   unfolding checkedOf
-  too-small a t h e =
-      record {
-        answer = e ∙ sym (taken _ (lt-ltb (length room) 32768 h) refl);
-        untouched = λ _. refl;
-        kept = λ s g. absurd (refusal-other (sym e ∙ g));
-      }
+  too-small a t h e f =
+      let small = lt-ltb (length room) 32768 h in
+      (e ∙ sym (taken _ small refl), subst (λ a. Leaves a head room room t) (sym e) (f, sym (taken _ small refl)))
 
-  pub too-long : (a : Checked) (t : Tables) → 32768 ≤ length room → 32768 < length head → a ≡ refusal 1 0 32768 → Compiles head room room (record { answer = a; tables = t })
+  pub too-long : (a : Checked) (t : Tables) (after : List ℕ) → 32768 ≤ length room → 32768 < length head → a ≡ refusal 1 0 32768 → t ≡ freshTables → after ≡ replicate (length room) 0 →
+      WholeBy head room after (record { answer = a; tables = t })
   unfolding checkedOf
-  too-long a t h k e =
-      record {
-        answer = e ∙ sym (passed _ (le-ltb (length room) 32768 h) (taken _ (lt-ltb 32768 (length head) k) refl));
-        untouched = λ _. refl;
-        kept = λ s g. absurd (refusal-other (sym e ∙ g));
-      }
+  too-long a t after h k e f z =
+      let large = le-ltb (length room) 32768 h in
+      (e ∙ sym (passed _ large (taken _ (lt-ltb 32768 (length head) k) refl)), subst (λ a. Leaves a head room after t) (sym e) (f, z ∙ sym (passed _ large refl)))
 
-  pub all-lines : (after : List ℕ) (r : Compiled) → 32768 ≤ length room → length head ≤ 32768 → LinesBy head room after r → Compiles head room after r
-  unfolding checkedOf
-  all-lines after r h k by =
-      record {
-        answer = by .answer ∙ sym (passed _ (le-ltb (length room) 32768 h) (passed _ (le-ltb 32768 (length head) k) refl));
-        untouched = λ l. absurd (omega (arith, l, h));
-        kept = λ s g x. by .kept s x;
-      }
+  module _ (h : 32768 ≤ length room) (k : length head ≤ 32768) where
+    by-lines : (a : Checked) → a ≡ answered (headOf head) → a ≡ checkedOf (length room) head
+    unfolding checkedOf
+    by-lines a e = e ∙ sym (passed _ (le-ltb (length room) 32768 h) (passed _ (le-ltb 32768 (length head) k) refl))
+
+    -- an accepted answer is of a head that gives a style
+    given : (x : Headed) → checked.Accepted ≡ answered x → (s : Style) × (x ≡ gives s)
+    given (refusedAt m n p) e = absurd (false≢true (sym (ap isAccepted e)))
+    given (gives s) e = (s, refl)
+
+    pub all-lines : (u after : List ℕ) (c r : Compiled) → length u ≡ length room → length after ≡ length u → LinesBy head room u c → SettledBy c u after r → WholeBy head room after r
+    all-lines u after c r n m by = go (c .answer) refl
+      where
+        go : (a : Checked) → c .answer ≡ a → Settled a (c .tables) u after r → WholeBy head room after r
+        go (checked.Refused x) e f = (
+          ap (λ (r : Compiled). r .answer) (f .0) ∙ by-lines (checked.Refused x) (sym e ∙ by .answer),
+          subst (λ (r : Compiled). Leaves (r .answer) head room after (r .tables)) (sym (f .0))
+              (refl, f .1 ∙ ap (λ (i : ℕ). replicate i 0) n ∙ sym (passed _ (le-ltb (length room) 32768 h) refl)),
+        )
+        go checked.Accepted e f =
+            let g = given (headOf head) (sym e ∙ by .answer) in (
+              ap (λ (r : Compiled). r .answer) (f .0) ∙ by-lines checked.Accepted (sym e ∙ by .answer),
+              subst (λ (r : Compiled). Leaves (r .answer) head room after (r .tables)) (sym (f .0))
+                  (g .0, g .1, h, k, m ∙ n, subst (λ (v : List ℕ). Holds head v (c .tables) (g .0) (length head + 1)) (sym (f .1)) (by .kept (g .0) (g .1))),
+            )
 
 -- ---- the room after a check
 
-pub zeroed : (room after v : List ℕ) → length after ≡ length room → 32768 ≤ length after → v ≡ replicate (length after) 0 → v ≡ roomAfter room
-zeroed room after v n h e = e ∙ ap (λ (m : ℕ). replicate m 0) n ∙ sym (passed _ (le-ltb (length room) 32768 (omega (arith, n, h))) refl)
+pub zeroed : (head room after v : List ℕ) (t : Tables) (a : Checked) → a ≡ checked.Accepted → Leaves a head room after t → v ≡ replicate (length after) 0 → v ≡ roomAfter room
+zeroed head room after v t a e l z =
+    let k = subst (λ a. Leaves a head room after t) e l in
+    z ∙ ap (λ (m : ℕ). replicate m 0) (k .4) ∙ sym (passed _ (le-ltb (length room) 32768 (k .2)) refl)
 
-pub left-alone : (head room after : List ℕ) (r : Compiled) → Compiles head room after r → length after ≡ length room → length after < 32768 → after ≡ roomAfter room
-left-alone head room after r c n h =
-    let small : length room < 32768 = omega (arith, n, h) in
-    c .untouched small ∙ sym (taken _ (lt-ltb (length room) 32768 small) refl)
+pub left-alone : (head room after : List ℕ) (t : Tables) (a : Checked) (x : Refusal) → a ≡ checked.Refused x → Leaves a head room after t → after ≡ roomAfter room
+left-alone head room after t a x e l = subst (λ a. Leaves a head room after t) e l .1

@@ -34,6 +34,16 @@ module _ {A : Type 0} where
   each-none P i [] h = tt
   each-none P i (x ∷ xs) h = absurd (omega arith)
 
+  pub each-at : (P : ℕ → A → Type 0) (i : ℕ) (xs : List A) → Each P i xs → (k : ℕ) → k < length xs → (x : A) × P (i + k) x
+  each-at P i [] e k h = absurd (omega arith)
+  each-at P i (x ∷ xs) e zero h =
+      let m : i ≡ i + 0 = omega arith in
+      (x, subst (λ (j : ℕ). P j x) m (e .0))
+  each-at P i (x ∷ xs) e (suc k) h =
+      let r = each-at P (suc i) xs (e .1) k (omega arith) in
+      let m : suc i + k ≡ i + suc k = omega arith in
+      (r .0, subst (λ (j : ℕ). P j (r .0)) m (r .1))
+
   pub length-more : (xs : List A) (x : A) → length (xs ++ x ∷ []) ≡ length xs + 1
   length-more xs x = length-append xs (x ∷ [])
 

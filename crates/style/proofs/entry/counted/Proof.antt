@@ -3,7 +3,7 @@ use borrow.Author.Needs.{needs}
 use Rattle.style.proofs.entry.counted.Statement.{statement}
 use Rattle.style.proofs.entry.counted.Tie as tie
 use mathlib.Core.Path.{subst}
-use Prim.Native.Nat.{_<_, _-_}
+use Prim.Native.Nat.{_<_}
 use native.Mathlib.Omega.{arith}
 use Rattle.style.specs.Inner.{Fits}
 

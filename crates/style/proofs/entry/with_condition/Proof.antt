@@ -3,7 +3,7 @@ use borrow.Author.Needs.{needs}
 use Rattle.style.proofs.entry.with_condition.Statement.{statement}
 use Rattle.style.proofs.entry.with_condition.Tie as tie
 use mathlib.Core.Path.{_∙_, ap}
-use Prim.Native.Nat.{_+_, _-_, _*_}
+use Prim.Native.Nat.{_+_, _*_}
 use Rattle.style.specs.Inner.{withExpression}
 
 mul-row : tie.Need-mul-row

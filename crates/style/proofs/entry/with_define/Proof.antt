@@ -3,7 +3,7 @@ use borrow.Author.Needs.{needs}
 use Rattle.style.proofs.entry.with_define.Statement.{statement}
 use Rattle.style.proofs.entry.with_define.Tie as tie
 use mathlib.Core.Path.{_∙_, ap}
-use Prim.Native.Nat.{_+_, _-_}
+use Prim.Native.Nat.{_+_}
 use Rattle.style.specs.Inner.{withExpression}
 
 add-with-name : tie.Need-add-with-name

@@ -3,7 +3,6 @@ use borrow.Author.Needs.{needs}
 use Rattle.style.proofs.entry.with_entry.Statement.{statement}
 use Rattle.style.proofs.entry.with_entry.Tie as tie
 use mathlib.Core.Path.{_∙_}
-use Prim.Native.Nat.{_-_}
 use Rattle.style.specs.Inner.{withCounts}
 
 counted-requires : tie.Need-counted-requires

@@ -3,7 +3,6 @@ use borrow.Author.Needs.{needs}
 use Rattle.style.proofs.expression.enter.Statement.{statement}
 use Rattle.style.proofs.expression.enter.Tie as tie
 use mathlib.Core.Path.{_∙_, ap}
-use Prim.Native.Nat.{_-_}
 use Rattle.checker.specs.Name.{numberOf, resolvedSlots}
 use Rattle.style.proofs.Law.Expressions.{judge-refuses, check-refuses, check-accepts}
 

@@ -2,7 +2,6 @@
 use borrow.Author.Needs.{needs}
 use Rattle.style.proofs.expression.enter_field.Statement.{statement}
 use Rattle.style.proofs.expression.enter_field.Tie as tie
-use Prim.Native.Nat.{_-_}
 use Rattle.text.specs.Slice.{putBack}
 use Rattle.style.proofs.Law.Expressions.{field-refused, field-accepted}
 

@@ -2,7 +2,6 @@
 use borrow.Author.Needs.{needs}
 use Rattle.style.proofs.line.admits.Statement.{statement}
 use Rattle.style.proofs.line.admits.Tie as tie
-use Prim.Native.Nat.{_-_}
 use Rattle.style.specs.Style.{admits}
 
 enum-told : tie.Need-enum-told

@@ -3,7 +3,6 @@ use borrow.Author.Needs.{needs}
 use Rattle.style.proofs.line.define.Statement.{statement}
 use Rattle.style.proofs.line.define.Tie as tie
 use mathlib.Core.Path.{sym, _∙_}
-use Prim.Native.Nat.{_-_}
 use borrow.Author.Tests.{not-true, not-false}
 use Rattle.style.proofs.Law.Lines.{define-count, define-name, define-body}
 

@@ -2,7 +2,6 @@
 use borrow.Author.Needs.{needs}
 use Rattle.style.proofs.line.defined.Statement.{statement}
 use Rattle.style.proofs.line.defined.Tie as tie
-use Prim.Native.Nat.{_-_}
 use native.Mathlib.Omega.{arith}
 use Rattle.style.proofs.Law.Lines.{body-refused, body-accepted}
 

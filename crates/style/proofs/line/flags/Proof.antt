@@ -3,7 +3,6 @@ use borrow.Author.Needs.{needs}
 use Rattle.style.proofs.line.flags.Statement.{statement}
 use Rattle.style.proofs.line.flags.Tie as tie
 use mathlib.Core.Path.{_∙_, ap}
-use Prim.Native.Nat.{_-_}
 use Rattle.checker.specs.Property.{packedOf}
 use Rattle.style.proofs.Law.Lines.{flags-unknown, flags-known}
 

@@ -2,7 +2,6 @@
 use borrow.Author.Needs.{needs}
 use Rattle.style.proofs.line.is_new_define.Statement.{statement}
 use Rattle.style.proofs.line.is_new_define.Tie as tie
-use Prim.Native.Nat.{_-_}
 
 number-requires : tie.Need-number-requires
 number-requires c κs = search needs

@@ -2,7 +2,6 @@
 use borrow.Author.Needs.{needs}
 use Rattle.style.proofs.line.is_new_property.Statement.{statement}
 use Rattle.style.proofs.line.is_new_property.Tie as tie
-use Prim.Native.Nat.{_-_}
 
 is-name-requires : tie.Need-is-name-requires
 is-name-requires c κs = search needs

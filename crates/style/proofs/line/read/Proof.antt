@@ -3,7 +3,6 @@ use borrow.Author.Needs.{needs}
 use Rattle.style.proofs.line.read.Statement.{statement}
 use Rattle.style.proofs.line.read.Tie as tie
 use mathlib.Core.Path.{refl}
-use Prim.Native.Nat.{_-_}
 use native.Mathlib.Omega.{arith}
 use borrow.Author.Tests.{not-true, not-false}
 use Rattle.text.proofs.Law.Parts.{end-within}

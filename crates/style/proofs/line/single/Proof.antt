@@ -3,7 +3,6 @@ use borrow.Author.Needs.{needs}
 use Rattle.style.proofs.line.single.Statement.{statement}
 use Rattle.style.proofs.line.single.Tie as tie
 use mathlib.Core.Path.{sym, _∙_}
-use Prim.Native.Nat.{_-_}
 use native.Mathlib.Omega.{arith}
 use Rattle.style.proofs.Law.Lines.{single-count, single-refused, single-accepted}
 

@@ -1,7 +1,6 @@
 -- `single_entry` is by the test.
 use Rattle.style.proofs.line.single_entry.Statement.{statement}
 use Rattle.style.proofs.line.single_entry.Tie as tie
-use Prim.Native.Nat.{_-_}
 
 returns : tie.Need-returns
 returns c =

@@ -2,7 +2,6 @@
 use borrow.Author.Needs.{needs}
 use Rattle.style.proofs.line.with_colour.Statement.{statement}
 use Rattle.style.proofs.line.with_colour.Tie as tie
-use Prim.Native.Nat.{_-_}
 use native.Mathlib.Omega.{arith}
 use Rattle.style.proofs.Law.Lines.{colour-refused, colour-accepted}
 

@@ -2,8 +2,7 @@
 use Rattle.style.proofs.tables.fresh.Statement.{statement}
 use Rattle.style.proofs.tables.fresh.Tie as tie
 use mathlib.Core.Path.{refl}
-use Prim.Native.Nat.{_-_}
-use Rattle.style.specs.Inner.{freshTables}
+use Rattle.style.specs.Tables.{freshTables}
 
 returns : tie.Need-returns
 unfolding freshTables

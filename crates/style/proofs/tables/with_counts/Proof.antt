@@ -2,7 +2,6 @@
 use Rattle.style.proofs.tables.with_counts.Statement.{statement}
 use Rattle.style.proofs.tables.with_counts.Tie as tie
 use mathlib.Core.Path.{refl}
-use Prim.Native.Nat.{_-_}
 use Rattle.style.specs.Inner.{withCounts}
 
 returns : tie.Need-returns

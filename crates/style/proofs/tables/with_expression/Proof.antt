@@ -3,7 +3,6 @@ use borrow.Author.Needs.{needs}
 use Rattle.style.proofs.tables.with_expression.Statement.{statement}
 use Rattle.style.proofs.tables.with_expression.Tie as tie
 use mathlib.Core.Path.{refl}
-use Prim.Native.Nat.{_-_}
 use Rattle.style.specs.Inner.{withExpression}
 
 mul-t : tie.Need-mul-t
