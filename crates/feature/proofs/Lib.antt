@@ -1,4 +1,5 @@
--- Theorems about the definitions: lines of samples are read as their values; the arrays hold what was stored
+-- Theorems about the definitions: what a line gives that is read; lines of samples are read as their values; the arrays hold what was stored
+pub mod Conforming
 pub mod Samples
 pub mod Filled
 -- What the functions' proofs lean on

@@ -20,10 +20,9 @@ use Rattle.value.specs.Value.{kindOf}
 use Rattle.value.specs.declared.value.Value.the-variants.{Undefined}
 use Rattle.checker.specs.Property.{undeclared, declared, onlyIf}
 use Rattle.text.specs.Parts.{fields}
-use Rattle.text.specs.Word.{lineOf}
 use Rattle.text.proofs.Law.Parts.{parted-joined, parted-alone}
 use Rattle.feature.specs.Field.{numeralOf, numbersOf, filledOf, fieldOf, conformed}
-use Rattle.feature.specs.Feature.{entered, complete, with, valuesFrom, isFeature, fieldsEntered, enteredOf, valuesOf, featureOf}
+use Rattle.feature.specs.Feature.{entered, complete, with, valuesFrom, fieldsEntered, enteredOf, valuesOf, featureOf}
 use Rattle.feature.specs.Sample.{absent, null, sample, Given, given, sampleText, sampleAt, textOf, chosenAt, kindsOf, written, lineFor, chosenFrom}
 use Rattle.feature.specs.declared.field.Field.the-variants as read
 use Rattle.feature.specs.declared.feature.Feature.the-variants.{Read}
@@ -46,7 +45,7 @@ sample-says at kind.Undefined = refl
 sample-says at kind.Null = refl
 sample-says at kind.Boolean = refl
 sample-says at kind.Number = refl
-sample-says at kind.String = rw (le-leb (at + 1 - at) 256 (omega arith))
+sample-says at kind.String = rw (le-leb (at + 1 - (at + 1)) 255 (omega arith))
 sample-says at kind.Vec2 = refl
 sample-says at kind.Vec3 = refl
 sample-says at kind.Vec4 = refl
@@ -112,7 +111,7 @@ sample-size gs h = omega (arith, written-size gs)
 
 module _ (gs : List Given) (few : length gs ≤ 32) (number : ℕ) (small : number ≤ 999999) where
   pub sample-read : enteredOf (map kindsOf gs) number (lineFor gs) ≡ entered (complete (chosenFrom 5 gs))
-  unfolding enteredOf fieldsEntered isFeature lineOf
+  unfolding enteredOf fieldsEntered
   sample-read =
       let f = fields-written (ascii "feat") gs (tt, (tt, (tt, (tt, tt)))) in
       let n : suc (length (map textOf gs)) ≡ length (map kindsOf gs) + 1 = omega (arith, length-map gs textOf, length-map gs kindsOf) in

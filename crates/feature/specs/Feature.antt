@@ -1,19 +1,19 @@
 -- A feature's line: page 01, "What the painter reads" ("`feat` and one field for each property, in `prop` order."), "Sizes", and the numbers 1 and 9 of "Refusal numbers", in that page's order: "then the strip: its size,
 -- the number of strips, 9".
-use mathlib.Core.Bool.{Bool, true, false, cond}
+use mathlib.Core.Bool.{true, false, cond}
 use mathlib.Core.List.{List, [], _∷_}
 use Prim.Native.Nat.{ℕ, zero, suc, _+_}
-use lib.Dec.{eqb, ltb}
+use lib.Dec.{T, eqb, ltb}
 use lib.Ieee.{Float}
-use lib.ListN.{length}
+use lib.ListN.{length, drop}
+use Rattle.lexer.specs.Bytes.{same, ascii}
+use Rattle.kind.specs.Set.{has}
 use Rattle.kind.specs.declared.set.Kinds.{Kinds}
+use Rattle.value.specs.Value.{kindOf}
 use Rattle.value.specs.declared.value.Value.{Value}
 use Rattle.checker.specs.Property.{setAt}
 use Rattle.evaluator.specs.Values.{storedRows, storedFloats}
 use Rattle.text.specs.Parts.{fields, field}
-use Rattle.text.specs.Word.{lineOf}
-use Rattle.text.specs.declared.word.Line.{Line}
-use Rattle.text.specs.declared.word.Line.the-variants as line
 use Rattle.feature.specs.Field.{fieldOf, conformed}
 use Rattle.feature.specs.declared.field.Field.{Field}
 use Rattle.feature.specs.declared.field.Field.the-variants as read
@@ -42,25 +42,7 @@ valuesFrom at [] fs = complete []
 valuesFrom at (s ∷ ss) [] = complete []
 valuesFrom at (s ∷ ss) (f ∷ fs) = onward at (conformed s (fieldOf at f)) (λ _. valuesFrom (at + length f + 1) ss fs)
 
--- the fields behind the first, of a line that has as many as there are properties
-abbrev pub behindFirst : List (List ℕ) → List (List ℕ)
-behindFirst [] = []
-behindFirst (f ∷ fs) = fs
-
 -- ---- the line
-
-abbrev pub isFeat : Line → Bool
-isFeat line.Prop = false
-isFeat line.Define = false
-isFeat line.Show = false
-isFeat line.Color = false
-isFeat line.Cond = false
-isFeat line.Feat = true
-isFeat line.Unknown = false
-
-unfoldable pub isFeature : List ℕ → Bool
-unfolding lineOf
-isFeature word = isFeat (lineOf word)
 
 -- a refusal before any field is looked at, or the fields
 pub data Entered : Type 0 where
@@ -72,16 +54,16 @@ unfoldable pub fieldsEntered : List Kinds → List ℕ → Entered
 fieldsEntered sets text =
     elim (eqb (length (fields text)) (length sets + 1)) [
       | false ↦ refused 9 (length text)
-      | true ↦ entered (valuesFrom (length (field text 0) + 1) sets (behindFirst (fields text)))
+      | true ↦ entered (valuesFrom (length (field text 0) + 1) sets (drop 1 (fields text)))
     ]
 
 -- "`feat` line 4,096 bytes", "999,999 strips", "a strip's word": "0 for the word"
 unfoldable pub enteredOf : List Kinds → ℕ → List ℕ → Entered
-unfolding isFeature fieldsEntered
+unfolding fieldsEntered
 enteredOf sets number text =
     cond (ltb 4096 (length text)) (refused 1 4096)
     (cond (ltb 999999 number) (refused 1 999999)
-    (elim (isFeature (field text 0)) [ false ↦ refused 9 0 | true ↦ fieldsEntered sets text ]))
+    (elim (same (field text 0) (ascii "feat")) [ false ↦ refused 9 0 | true ↦ fieldsEntered sets text ]))
 
 -- ---- what the call answers, and what it stores
 
@@ -120,3 +102,13 @@ setsFrom sets i (suc n) = setAt sets i ∷ setsFrom sets (suc i) n
 
 abbrev pub setsOf : List ℕ → ℕ → List Kinds
 setsOf sets n = setsFrom sets 0 n
+
+-- ---- values that conform
+
+-- A value for each property, of a kind that it may have: what a line gives that conforms, which it does by page 01, "Refusal numbers", "if by this table neither 1 nor 9 refuses it". That it gives such values is a
+-- theorem.
+abbrev pub AllOf : List Kinds → List Value → Type 0
+AllOf [] [] = Unit {0}
+AllOf [] (v ∷ vs) = ⊥
+AllOf (s ∷ ss) [] = ⊥
+AllOf (s ∷ ss) (v ∷ vs) = T (has s (kindOf v)) × AllOf ss vs

@@ -66,7 +66,7 @@ numbersOf text = made (numbersIn (parted 32 text))
 
 -- "`=` and then 0 to 255 bytes": the string from its `=` up to its end
 abbrev pub stringOf : ℕ → ℕ → Field
-stringOf start end = cond (leb (end - start) 256) (Read (String (record { literal = false; start = start + 1; end = end }))) Unread
+stringOf start end = cond (leb (end - (start + 1)) 255) (Read (String (record { literal = false; start = start + 1; end = end }))) Unread
 
 -- ---- a field
 

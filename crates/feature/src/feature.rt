@@ -3,7 +3,7 @@ ghost use mathlib.Core.Path.{_≡_};
 ghost use Prim.Native.Nat.{_≤_};
 ghost use lib.ListN.{length};
 ghost use Rattle.text.specs.Parts.{endFrom};
-ghost use Rattle.feature.specs.Feature.{isFeature, setsOf, featureOf, rowsAfter, floatsAfter};
+ghost use Rattle.feature.specs.Feature.{setsOf, featureOf, rowsAfter, floatsAfter};
 ghost use Rattle.feature.specs.Inner.{FieldsBy};
 use crate::field;
 use crate::field::Field;
@@ -11,8 +11,7 @@ use checker::property::set_at;
 use evaluator::values::store;
 use text::part;
 use text::part::TAB;
-use text::word::Line;
-use text::word::line_of;
+use value::equality::same_part;
 
 // Page 01's number and place of the refusal, or that the values are stored.
 pub enum Feature {
@@ -23,20 +22,6 @@ pub enum Feature {
 const MOST_BYTES: usize = 4096;
 
 const MOST_FEATURES: usize = 999_999;
-
-fn is_feature(word: &[u8]) -> bool
-    ensures { λ r. ⌜ r ≡ isFeature (now (word .entry)) ⌝ }
-{
-    match line_of(word) {
-        Line::Prop => false,
-        Line::Define => false,
-        Line::Show => false,
-        Line::Color => false,
-        Line::Cond => false,
-        Line::Feat => true,
-        Line::Unknown => false,
-    }
-}
 
 // The fields in turn, from behind the first tab on. Each value is stored for its property, up to the
 // first field that doesn't conform.
@@ -102,7 +87,7 @@ pub fn read(
         };
     }
     let word = part::end(TAB, line, 0);
-    if !is_feature(&line[0..word]) {
+    if !same_part(line, 0, word, b"feat", 0, 4) {
         return Feature::Refused {
             number: 9,
             place: 0,

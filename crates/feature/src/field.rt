@@ -11,7 +11,7 @@ use value::value::Span;
 use value::value::Value;
 use value::value::kind_of;
 
-pub enum Field {
+pub(crate) enum Field {
     Unread,
     Read(Value),
 }
@@ -23,10 +23,11 @@ fn string(start: usize, end: usize) -> Field
     requires { ⌜ start < end ⌝ }
     ensures { λ r. ⌜ r ≡ stringOf start end ⌝ }
 {
-    if end - start <= 1 + LONGEST_STRING {
+    let first = start + 1;
+    if end - first <= LONGEST_STRING {
         Field::Read(Value::String(Span {
             literal: false,
-            start: start + 1,
+            start: first,
             end,
         }))
     } else {

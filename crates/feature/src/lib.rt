@@ -1,4 +1,4 @@
 // Features: a line with a field for each property of a schema, and the values that the fields give.
 pub mod feature;
-pub mod field;
+mod field;
 mod numeral;

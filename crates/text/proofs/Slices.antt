@@ -24,14 +24,14 @@ slice-slice l at end a b h =
     ap (drop a) (take-drop at b (take end l) ∙ ap (drop at) (take-take (at + b) end l h)) ∙ drop-drop a at (take (at + b) l)
 
 -- a part is known by the elements before its end
-pub slice-known : (x y : List ℕ) (p q m : ℕ) → q ≤ m → take m x ≡ take m y → slice p q x ≡ slice p q y
+slice-known : (x y : List ℕ) (p q m : ℕ) → q ≤ m → take m x ≡ take m y → slice p q x ≡ slice p q y
 slice-known x y p q m h e = ap (drop p) (sym (take-take q m x h) ∙ ap (take q) e ∙ take-take q m y h)
 
 -- ---- a part that is put back
 
 module _ (l : List ℕ) (from to : ℕ) (part : List ℕ) (inside : to ≤ length l) (order : from ≤ to) where
   -- what stands before it stays
-  pub put-before : (m : ℕ) → m ≤ from → take m (putBack l from to part) ≡ take m l
+  put-before : (m : ℕ) → m ≤ from → take m (putBack l from to part) ≡ take m l
   unfolding putBack
   put-before m h = take-append-le m (take from l) _ (omega (arith, length-take from l)) ∙ take-take m from l h
 

@@ -8,7 +8,7 @@ use Rattle.lexer.specs.Bytes.{run}
 use Rattle.words.specs.Table.{before}
 use Rattle.text.specs.declared.part.Part.{Part}
 
--- the parts of a text, each ended by one byte but the last, for which something may stand already
+-- The parts of a text, each ended by one byte (the last may lack it). `end` is what stands for the end of the text: no part for lines, one empty part for fields.
 abbrev pub partsBefore : List (List ℕ) → ℕ → List ℕ → List (List ℕ)
 partsBefore end b [] = end
 partsBefore end b (x ∷ xs) = elim (eqb x b) [ true ↦ [] ∷ partsBefore end b xs | false ↦ before x (partsBefore end b xs) ]

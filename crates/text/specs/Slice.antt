@@ -1,4 +1,4 @@
--- What a part of a slice means that was lent and came back.
+-- Slices of the language, of which page 01 doesn't speak: what a part of one means that was lent and came back.
 use mathlib.Core.List.{List, _++_}
 use Prim.Native.Nat.{ℕ, _-_}
 use lib.ListN.{take, drop}

@@ -7,9 +7,9 @@ use native.Mathlib.Numerals.{add-one}
 use native.Mathlib.Omega.{arith}
 use borrow.Author.Tests.{eq-eqb, ne-eqb, lt-ltb, le-ltb}
 use lib.Ieee.{Float}
-use lib.ListN.{length, take, drop}
+use lib.ListN.{length}
 use lib.Seq.{slice, length-slice}
-use Rattle.lexer.proofs.Law.Spelling.{slice-is}
+use Rattle.lexer.specs.Bytes.{same, ascii}
 use Rattle.kind.specs.declared.set.Kinds.{Kinds}
 use Rattle.value.specs.declared.value.Value.{Value}
 use Rattle.checker.specs.Property.{setAt}
@@ -17,7 +17,7 @@ use Rattle.evaluator.specs.Values.{storedRows, storedFloats}
 use Rattle.text.specs.Parts.{fields, field, endFrom}
 use Rattle.text.proofs.Law.Parts.{partsFrom, parts-all, parts-on, parts-some, end-within, some-part, from-first, here}
 use Rattle.feature.specs.Field.{fieldOf, conformed}
-use Rattle.feature.specs.Feature.{Values, complete, broken, with, onward, valuesFrom, isFeature, Entered, refused, entered, fieldsEntered, enteredOf, answered, valuesOf, rowsWith, floatsWith, setsFrom, setsOf}
+use Rattle.feature.specs.Feature.{Values, complete, broken, with, onward, valuesFrom, Entered, refused, entered, fieldsEntered, enteredOf, answered, valuesOf, rowsWith, floatsWith, setsFrom, setsOf}
 use Rattle.feature.specs.Inner.{FieldsBy}
 use Rattle.feature.specs.declared.field.Field.{Field}
 use Rattle.feature.specs.declared.field.Field.the-variants as read
@@ -128,9 +128,9 @@ module _ (ss : List Kinds) (number : ℕ) (line : List ℕ) where
     unfolding enteredOf
     too-many k = rw (le-ltb 4096 (length line) h, lt-ltb 999999 number k)
 
-    module _ (k : number ≤ 999999) (word : ℕ) (t : Bool) (w : word ≡ endFrom 9 line 0) (i : t ≡ isFeature (take (word - 0) (drop 0 line))) where
-      first-field : isFeature (field line 0) ≡ t
-      first-field = ap isFeature (here 9 line 0 0 (from-first 9 line) ∙ slice-is 0 (endFrom 9 line 0) line ∙ rw (← w)) ∙ sym i
+    module _ (k : number ≤ 999999) (word : ℕ) (t : Bool) (w : word ≡ endFrom 9 line 0) (i : t ≡ same (slice 0 word line) (ascii "feat")) where
+      first-field : same (field line 0) (ascii "feat") ≡ t
+      first-field = rw (here 9 line 0 0 (from-first 9 line), ← w, i)
 
       pub other-word : t ≡ false → enteredOf ss number line ≡ refused 9 0
       unfolding enteredOf

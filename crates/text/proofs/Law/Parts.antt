@@ -20,7 +20,7 @@ use Rattle.text.specs.Parts.{partsBefore, lines, parted, startIn, partAt
 use Rattle.text.specs.declared.part.Part.{Part}
 
 -- two numbers, by which is the greater
-pub by-order : {P : Type 0} (a b : ℕ) → (a < b → P) → (b ≤ a → P) → P
+by-order : {P : Type 0} (a b : ℕ) → (a < b → P) → (b ≤ a → P) → P
 by-order {P} a b f g = go (ltb a b) refl
   where
     go : (t : Bool) → ltb a b ≡ t → P
@@ -47,7 +47,7 @@ module _ (end : List (List ℕ)) (b : ℕ) where
       by : Bool → List (List ℕ)
       by t = elim t [ true ↦ [] ∷ partsBefore end b xs | false ↦ before x (partsBefore end b xs) ]
 
-  pub first-part : (s : List ℕ) → ahead s < length s → partsBefore end b s ≡ take (ahead s) s ∷ partsBefore end b (drop (suc (ahead s)) s)
+  first-part : (s : List ℕ) → ahead s < length s → partsBefore end b s ≡ take (ahead s) s ∷ partsBefore end b (drop (suc (ahead s)) s)
   first-part [] h = absurd (omega arith)
   first-part (x ∷ xs) h = go (eqb x b) refl (first-part xs)
     where
@@ -57,7 +57,7 @@ module _ (end : List (List ℕ)) (b : ℕ) where
       go false e more = let f = first-goes x xs e in rw (f .1) (f .0 ∙ ap (before x) (more (omega (arith, h, f .1))))
 
 -- a text without such a byte
-pub only-part : (b : ℕ) (s : List ℕ) → length s ≤ run (λ x. not (eqb x b)) s → parted b s ≡ s ∷ []
+only-part : (b : ℕ) (s : List ℕ) → length s ≤ run (λ x. not (eqb x b)) s → parted b s ≡ s ∷ []
 only-part b [] h = refl
 only-part b (x ∷ xs) h = go (eqb x b) refl (only-part b xs)
   where
@@ -205,10 +205,10 @@ module _ (b : ℕ) (text : List ℕ) (i at : ℕ) (f : From b text i at) where
     split-here : getD (parted b text) i [] ∷ drop (suc i) (parted b text) ≡ slice at (endFrom b text at) text ∷ parted b (drop (endFrom b text at + 1) text)
     split-here = sym opened ∙ f .left ∙ parts-from b text at ([] ∷ []) more
 
-    pub here-more : getD (parted b text) i [] ≡ slice at (endFrom b text at) text
+    here-more : getD (parted b text) i [] ≡ slice at (endFrom b text at) text
     here-more = ap (λ (ps : List (List ℕ)). getD ps 0 []) split-here
 
-    pub from-next : From b text (i + 1) (endFrom b text at + 1)
+    from-next : From b text (i + 1) (endFrom b text at + 1)
     from-next =
         let l : length (slice at (endFrom b text at) text) ≡ endFrom b text at - at = length-slice at (endFrom b text at) text (omega arith) in
         record {
@@ -221,27 +221,19 @@ module _ (b : ℕ) (text : List ℕ) (i at : ℕ) (f : From b text i at) where
     whole-here : getD (parted b text) i [] ∷ drop (suc i) (parted b text) ≡ drop at text ∷ []
     whole-here = sym opened ∙ f .left ∙ only-part b (drop at text) (omega (arith, done, length-drop at text))
 
-    pub here-last : getD (parted b text) i [] ≡ slice at (endFrom b text at) text
+    here-last : getD (parted b text) i [] ≡ slice at (endFrom b text at) text
     here-last = ap (λ (ps : List (List ℕ)). getD ps 0 []) whole-here ∙ last-from b text at (f .inside) done
 
-    pub last-is : length (parted b text) ≡ i + 1
+    last-is : length (parted b text) ≡ i + 1
     last-is = omega (arith, length-drop (suc i) (parted b text), ap (λ (ps : List (List ℕ)). length (drop 1 ps)) whole-here, below)
 
   -- this part, whichever it is
   pub here : getD (parted b text) i [] ≡ slice at (endFrom b text at) text
   here = by-order (endFrom b text at) (length text) here-more here-last
 
-  -- there is another exactly if it ends before the text does
+  -- there is another only if it ends before the text does
   pub another : i + 1 < length (parted b text) → endFrom b text at < length text
   another h = by-order (endFrom b text at) (length text) (λ k. k) (λ k. absurd (omega (arith, h, last-is k)))
-
-  pub no-other : length (parted b text) ≤ i + 1 → length text ≤ endFrom b text at
-  no-other h = by-order (endFrom b text at) (length text) (λ k. absurd (omega (arith, h, from-below k))) (λ k. k)
-    where
-      from-below : endFrom b text at < length text → i + 1 < length (parted b text)
-      from-below k =
-          let n = from-next k in
-          omega (arith, length-drop (i + 1) (parted b text), some-part b (drop (endFrom b text at + 1) text), ap length (n .left))
 
 -- the same of an end that is known to be it
 module _ (b : ℕ) (text : List ℕ) (k at end : ℕ) (e : end ≡ endFrom b text at) (f : From b text k at) where
@@ -254,7 +246,7 @@ module _ (b : ℕ) (text : List ℕ) (k at end : ℕ) (e : end ≡ endFrom b tex
 -- ---- a part by its index
 
 module _ (b : ℕ) (text : List ℕ) where
-  pub part-there : (i at : ℕ) → From b text i at → _≡_ {A = Part} (record { start = at; end = endFrom b text at }) (partAt b text i)
+  part-there : (i at : ℕ) → From b text i at → _≡_ {A = Part} (record { start = at; end = endFrom b text at }) (partAt b text i)
   unfolding partAt
   part-there i at f =
       let n : startIn (parted b text) i + length (getD (parted b text) i []) ≡ endFrom b text at =

@@ -2,10 +2,7 @@
 use borrow.Author.Needs.{needs}
 use Rattle.feature.proofs.feature.read.Statement.{statement}
 use Rattle.feature.proofs.feature.read.Tie as tie
-use Prim.Native.Nat.{_-_}
-use native.Mathlib.Omega.{arith}
 use borrow.Author.Tests.{not-true, not-false}
-use Rattle.text.proofs.Law.Parts.{end-within}
 use Rattle.feature.proofs.Law.Lines.{too-long, too-many, other-word, its-fields, refuses, reads}
 
 returns : tie.Need-returns
@@ -19,29 +16,22 @@ returns-2 c =
 end-requires : tie.Need-end-requires
 end-requires c κs = search needs
 
-sub-is-feature : tie.Need-sub-is-feature
-sub-is-feature c = search needs
+slice-aggregate-same-part : tie.Need-slice-aggregate-same-part
+slice-aggregate-same-part c = search needs
 
-part-is-feature-start : tie.Need-part-is-feature-start
-part-is-feature-start c = search needs
-
-part-is-feature-end : tie.Need-part-is-feature-end
-part-is-feature-end c =
-    omega (arith, c .end .ensures, end-within 9 (c .before .before .before .before .args .line .now) 0 (omega arith))
-
-is-feature-requires : tie.Need-is-feature-requires
-is-feature-requires c κs = search needs
+same-part-requires : tie.Need-same-part-requires
+same-part-requires c κs = search needs
 
 returns-3 : tie.Need-returns-3
 returns-3 c =
-    refuses _ _ _ (other-word _ _ _ (c .before .before .before .before .before .if1 .left) (c .before .before .before .before .if2 .left) _ _ (c .before .before .before .end .ensures) (c .before .is-feature .ensures) (not-true _ (c .if3 .taken)))
+    refuses _ _ _ (other-word _ _ _ (c .before .before .before .before .before .if1 .left) (c .before .before .before .before .if2 .left) _ _ (c .before .before .before .end .ensures) (c .before .same-part .ensures) (not-true _ (c .if3 .taken)))
 
 read-fields-requires : tie.Need-read-fields-requires
 read-fields-requires c κs = search needs
 
 returns-4 : tie.Need-returns-4
 returns-4 c =
-    reads _ _ _ _ _ _ _ _ _ (its-fields _ _ _ (c .before .before .before .before .before .before .before .before .if1 .left) (c .before .before .before .before .before .before .before .if2 .left) _ _ (c .before .before .before .before .before .before .end .ensures) (c .before .before .before .before .is-feature .ensures) (not-false _ (c .before .before .before .if3 .left))) (c .read-fields .ensures)
+    reads _ _ _ _ _ _ _ _ _ (its-fields _ _ _ (c .before .before .before .before .before .before .before .before .if1 .left) (c .before .before .before .before .before .before .before .if2 .left) _ _ (c .before .before .before .before .before .before .end .ensures) (c .before .before .before .before .same-part .ensures) (not-false _ (c .before .before .before .if3 .left))) (c .read-fields .ensures)
 
 pub read-spec : {M : Type 1} → statement M
 read-spec =
@@ -50,10 +40,8 @@ read-spec =
     returns
     returns-2
     end-requires
-    sub-is-feature
-    part-is-feature-start
-    part-is-feature-end
-    is-feature-requires
+    slice-aggregate-same-part
+    same-part-requires
     returns-3
     read-fields-requires
     returns-4)

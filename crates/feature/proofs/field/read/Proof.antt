@@ -3,7 +3,6 @@ use borrow.Author.Needs.{needs}
 use Rattle.feature.proofs.field.read.Statement.{statement}
 use Rattle.feature.proofs.field.read.Tie as tie
 use mathlib.Core.Path.{sym, _∙_}
-use Prim.Native.Nat.{_-_}
 use Rattle.feature.proofs.Law.Fields.{says-nothing, says-null, says-true, says-false, says-text, says-numbers}
 
 returns : tie.Need-returns

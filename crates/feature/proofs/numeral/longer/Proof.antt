@@ -2,7 +2,6 @@
 use borrow.Author.Needs.{needs}
 use Rattle.feature.proofs.numeral.longer.Statement.{statement}
 use Rattle.feature.proofs.numeral.longer.Tie as tie
-use Prim.Native.Nat.{_-_}
 
 enum-told : tie.Need-enum-told
 enum-told c = search needs

@@ -2,7 +2,6 @@
 use borrow.Author.Needs.{needs}
 use Rattle.feature.proofs.numeral.signed.Statement.{statement}
 use Rattle.feature.proofs.numeral.signed.Tie as tie
-use Prim.Native.Nat.{_-_}
 use Rattle.feature.specs.Field.{numeralOf}
 
 has-byte-requires : tie.Need-has-byte-requires

@@ -2,7 +2,6 @@
 use borrow.Author.Needs.{needs}
 use Rattle.feature.proofs.numeral.whole_number.Statement.{statement}
 use Rattle.feature.proofs.numeral.whole_number.Tie as tie
-use Prim.Native.Nat.{_-_}
 use borrow.Author.Tests.{eq-eqb, ne-eqb}
 
 enum-told : tie.Need-enum-told

@@ -2,7 +2,6 @@
 use borrow.Author.Needs.{needs}
 use Rattle.text.proofs.name.is_name.Statement.{statement}
 use Rattle.text.proofs.name.is_name.Tie as tie
-use Prim.Native.Nat.{_-_}
 use native.Mathlib.Nat.{zero-add}
 use Rattle.text.specs.Name.{isName}
 

@@ -3,7 +3,7 @@ use borrow.Author.Needs.{needs}
 use Rattle.text.proofs.part.nth.Statement.{statement}
 use Rattle.text.proofs.part.nth.Tie as tie
 use mathlib.Core.Path.{_≡_, subst}
-use Prim.Native.Nat.{ℕ, _≤_, _+_, _-_}
+use Prim.Native.Nat.{ℕ, _≤_, _+_}
 use native.Mathlib.Omega.{arith}
 use lib.ListN.{length}
 use Rattle.text.proofs.Law.Parts.{From, from-first, next-from, found, part-none, end-within}

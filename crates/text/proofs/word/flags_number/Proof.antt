@@ -5,7 +5,6 @@ use Rattle.text.proofs.word.flags_number.Tie as tie
 use mathlib.Core.Path.{_∙_}
 use mathlib.Core.Bool.{false}
 use mathlib.Core.List.{[], _∷_, map}
-use Prim.Native.Nat.{_-_}
 use native.Mathlib.Omega.{arith}
 use Rattle.lexer.specs.Bytes.{ascii}
 use Rattle.words.specs.Table.{folded}

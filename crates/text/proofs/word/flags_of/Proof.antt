@@ -3,7 +3,6 @@ use borrow.Author.Needs.{needs}
 use Rattle.text.proofs.word.flags_of.Statement.{statement}
 use Rattle.text.proofs.word.flags_of.Tie as tie
 use mathlib.Core.Path.{_∙_, ap}
-use Prim.Native.Nat.{_-_}
 use Rattle.text.specs.Word.{flagsNumbered, flagsOf}
 
 flags-number-requires : tie.Need-flags-number-requires

@@ -2,7 +2,6 @@
 use Rattle.text.proofs.word.type_numbered.Statement.{statement}
 use Rattle.text.proofs.word.type_numbered.Tie as tie
 use mathlib.Core.Path.{sym}
-use Prim.Native.Nat.{_-_}
 use lib.ListN.{List·getD-eq-default}
 use Rattle.words.proofs.Law.Arms.{above}
 use Rattle.text.specs.Word.{typesListed}

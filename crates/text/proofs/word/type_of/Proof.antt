@@ -3,7 +3,6 @@ use borrow.Author.Needs.{needs}
 use Rattle.text.proofs.word.type_of.Statement.{statement}
 use Rattle.text.proofs.word.type_of.Tie as tie
 use mathlib.Core.Path.{_∙_, ap}
-use Prim.Native.Nat.{_-_}
 use Rattle.text.specs.Word.{typeWords, typeNumbered, typeOf}
 use Rattle.text.proofs.Law.Words.{numbered}
 
