@@ -70,7 +70,7 @@ fn row_end(value: Value) -> usize
     span.end
 }
 
-// Stores a value for `value_at` to read. A number that has no row has no place.
+// Stores a value for `value_at` to read. A number that has no row changes nothing.
 pub fn store(rows: &mut [usize; 144], floats: &mut [f64; 192], number: usize, value: Value)
     ensures { λ _. ⌜ (now (rows .exit) ≡ storedRows (now (rows .entry)) number value) × (now (floats .exit) ≡ storedFloats (now (floats .entry)) number value) ⌝ }
 {

@@ -20,7 +20,7 @@ use Rattle.style.specs.declared.check.Checked.the-variants.{Accepted, Re
 use Rattle.style.specs.declared.tables.Counts.{Counts}
 use Rattle.style.specs.declared.tables.Tables.{Tables}
 
--- each of some is as asked, with its index, which goes on from one
+-- each element of a list is as asked, by its index, which counts from i
 abbrev pub Each : {A : Type 0} → (ℕ → A → Type 0) → ℕ → List A → Type 0
 Each P i [] = Unit {0}
 Each P i (x ∷ xs) = P i x × Each P (suc i) xs

@@ -12,8 +12,8 @@ use crate::tables::with_counts;
 use crate::tables::with_expression;
 use crate::tables::with_name;
 
-// Places count in the line. An expression goes on to its line's end, save the first of a condition,
-// which ends where the tab before the second stands.
+// Places count in the line. `from` and `to` are an expression's; `start` and `end` are a name's, and a
+// condition's are those of its colour.
 pub(crate) enum Entry {
     Refused {
         number: u8,
