@@ -26,17 +26,23 @@ use text::word::flags_of;
 use text::word::line_of;
 use text::word::type_of;
 
+const MOST_PROPERTIES: usize = 32;
+
+const MOST_DEFINES: usize = 16;
+
+const MOST_CONDITIONS: usize = 16;
+
 // Whether a line of a word may stand behind so many of each.
 fn admits(word: Line, counts: Counts) -> bool
     ensures { λ r. ⌜ r ≡ admits word (counts .properties) (counts .defines) (counts .shows) (counts .colours) (counts .conditions) ⌝ }
 {
     let none = (counts.shows == 0) & ((counts.colours == 0) & (counts.conditions == 0));
     match word {
-        Line::Prop => (counts.properties < 32) & ((counts.defines == 0) & none),
-        Line::Define => (counts.defines < 16) & none,
+        Line::Prop => (counts.properties < MOST_PROPERTIES) & ((counts.defines == 0) & none),
+        Line::Define => (counts.defines < MOST_DEFINES) & none,
         Line::Show => counts.shows < 1,
         Line::Color => (counts.colours < 1) & (counts.conditions == 0),
-        Line::Cond => (counts.conditions < 16) & (counts.colours == 0),
+        Line::Cond => (counts.conditions < MOST_CONDITIONS) & (counts.colours == 0),
         Line::Feat => false,
         Line::Unknown => false,
     }
