@@ -2,10 +2,11 @@
 // root and the length of its tree, and then the tree.
 use crate::read;
 use crate::report;
-use crate::shown;
 use cases::line;
 use lexer::bytes::has_word;
+use printed::shown;
 use style::tables::Tables;
+use syntax::judge::MOST_HEIGHT;
 
 const LINE: usize = 22;
 
@@ -13,8 +14,6 @@ const ROWS: usize = 50;
 
 // More than any tree of the files has bytes, so that a full page is none.
 const PAGE: usize = 8400;
-
-const MOST_HEIGHT: usize = 64;
 
 // ---- where it lies
 
@@ -63,7 +62,7 @@ fn shown_agrees(
     tree: &[u8],
     page: &mut [u8],
 ) -> bool {
-    let end = shown::tree(page, 0, text, slots, root, MOST_HEIGHT);
+    let end = shown::tree(page, 0, text, true, slots, root, MOST_HEIGHT);
     if end < page.len() {
         return page_agrees(name, line, head, tree, &page[..end]);
     }

@@ -6,11 +6,9 @@ mod expressions;
 mod feature_case;
 mod head_case;
 mod names;
-mod page;
 mod read;
 mod report;
 mod rooms;
-mod shown;
 mod values;
 
 use cases::tally;

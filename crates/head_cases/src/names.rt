@@ -1,11 +1,10 @@
 // The names of a head, each on a line: its row, where it lies in the head, and the set of its kinds.
 use crate::report;
 use cases::line;
+use checker::name::ROWS;
 use style::tables::Tables;
 
 const LINE: usize = 16;
-
-const ROWS: usize = 48;
 
 fn wide(byte: u8) -> u64 {
     byte as u64

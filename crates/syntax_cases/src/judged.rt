@@ -1,8 +1,8 @@
 // What the crate syntax says of a text: a refusal, or the tree that it lays into slots.
 use crate::report;
-use crate::shown;
 use cases::line;
 use lexer::bytes::has_word;
+use printed::shown;
 use syntax::judge::Judgement;
 use syntax::judge::judge;
 
@@ -86,7 +86,7 @@ fn tree_agrees(
     root: usize,
     page: &mut [u8],
 ) -> bool {
-    let end = shown::tree(page, 0, text, slots, root, MOST_HEIGHT);
+    let end = shown::tree(page, 0, text, false, slots, root, MOST_HEIGHT);
     if end < page.len() {
         return page_agrees(name, head, text, tree, &page[..end]);
     }

@@ -2,10 +2,8 @@
 // cases there are and how many differ, and of each difference the line, the text and what came.
 mod case;
 mod judged;
-mod page;
 mod read;
 mod report;
-mod shown;
 
 use cases::tally;
 use cases::tally::Outcome;

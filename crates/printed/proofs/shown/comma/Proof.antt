@@ -1,0 +1,20 @@
+use borrow.Author.Needs.{needs}
+use Rattle.printed.proofs.shown.comma.Statement.{statement}
+use Rattle.printed.proofs.shown.comma.Tie as tie
+use Rattle.printed.proofs.Law.Pages.{and-then}
+
+byte-requires : tie.Need-byte-requires
+byte-requires c κs = search needs
+
+byte-requires-2 : tie.Need-byte-requires-2
+byte-requires-2 c κs = search needs
+
+same-length : tie.Need-same-length
+same-length c = search needs
+
+returns : tie.Need-returns
+returns c =
+    and-then _ _ _ (c .before .before .before .before .before .before .byte .ensures) (c .before .before .byte2 .ensures)
+
+pub comma-spec : {M : Type 1} → statement M
+comma-spec = tie.close (tie.spec byte-requires byte-requires-2 same-length returns)

@@ -1,0 +1,34 @@
+-- Bytes on a page.
+use mathlib.Core.Bool.{cond}
+use mathlib.Core.List.{List, [], _∷_}
+use Prim.Native.Nat.{ℕ, zero, suc, _+_}
+use lib.Dec.{eqb, ltb}
+use lib.ListN.{length, set}
+
+-- one byte more on a page, whose next byte goes to a place; on a full page it is left out
+abbrev pub byteOn : List ℕ × ℕ → ℕ → List ℕ × ℕ
+byteOn (page, at) b = cond (ltb at (length page)) (set page at b, at + 1) (page, at)
+
+-- the bytes one behind the other
+unfoldable pub written : List ℕ × ℕ → List ℕ → List ℕ × ℕ
+written p [] = p
+written p (b ∷ bs) = written (byteOn p b) bs
+
+-- how many spaces (32) a byte is
+abbrev pub spacesOf : ℕ → ℕ
+spacesOf b = cond (eqb b 32) 1 0
+
+-- what stands behind the first n spaces
+unfoldable pub afterSpaces : ℕ → List ℕ → List ℕ
+afterSpaces zero bs = bs
+afterSpaces (suc n) [] = []
+afterSpaces (suc n) (b ∷ bs) = cond (eqb b 32) (afterSpaces n bs) (afterSpaces (suc n) bs)
+
+-- what stands before the first space
+unfoldable pub firstWord : List ℕ → List ℕ
+firstWord [] = []
+firstWord (b ∷ bs) = cond (eqb b 32) [] (b ∷ firstWord bs)
+
+-- the word of a table that has n spaces before it
+abbrev pub wordOf : ℕ → List ℕ → List ℕ
+wordOf n table = firstWord (afterSpaces n table)
