@@ -1,6 +1,6 @@
 -- A tree as text, with all its brackets.
 use mathlib.Core.Bool.{Bool, cond}
-use mathlib.Core.List.{List, [], _∷_, _++_}
+use mathlib.Core.List.{List, [], _++_}
 use Prim.Native.Nat.{ℕ, _/_, _%_}
 use lib.Seq.{slice}
 use Rattle.lexer.specs.Bytes.{ascii}
