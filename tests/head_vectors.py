@@ -485,39 +485,39 @@ def cond(test=b'true', colour=b'color()'):
     return row(b'cond', test, colour)
 
 
-LAP = prop(b'Lap', b'Number', b'a')
-LEDGER = lines(prop(b'Line'), LAP, cond(b'${Line} > 39', b"color('red')"), cond(b'true', b"color('#0F0', 0.5)"))
+OPTIONAL = prop(b'Lap', b'Number', b'a')
+SAMPLE_HEAD = lines(prop(b'Line'), OPTIONAL, cond(b'${Line} > 39', b"color('red')"), cond(b'true', b"color('#0F0', 0.5)"))
 COLUMNS = [prop(b'p%d' % i) for i in range(40)]
 DEFINES = [define(b'd%d' % i) for i in range(20)]
 
 
 # ---- what the papers say of single heads and features
 
-def lap(*rows):
-    return lines(LAP, *rows)
+def under_optional(*rows):
+    return lines(OPTIONAL, *rows)
 
 
 # A head with its refusal, or with how many properties, defines and expressions it has.
 STATED = [
     # page 01
-    (LEDGER, (2, 0, 4)), (lap(show(b'${Lap} === undefined')), (1, 0, 1)), (lap(show(b'${Lap} < 0.2')), (7, 2, 7)), (lap(show(b'true || ${Lap} < 0.2')), (7, 2, 15)),
-    (lap(define(b'd', b'vec3(1.0) / 3')), (1, 1, 1)), (lap(define(b'd', b'3 / vec3(1.0)')), (7, 2, 2)), (lap(define(b'd', b'vec2(1, 2).z')), (7, 2, 10)), (lap(define(b'd', b'')), (4, 2, 0)),
-    (lap(define(b'd', b'1 --1')), (2, 2, 2)), (lap(color(b"color('red') * vec4(0.5)")), (1, 0, 1)), (b'', (0, 0, 0)),
+    (SAMPLE_HEAD, (2, 0, 4)), (under_optional(show(b'${Lap} === undefined')), (1, 0, 1)), (under_optional(show(b'${Lap} < 0.2')), (7, 2, 7)), (under_optional(show(b'true || ${Lap} < 0.2')), (7, 2, 15)),
+    (under_optional(define(b'd', b'vec3(1.0) / 3')), (1, 1, 1)), (under_optional(define(b'd', b'3 / vec3(1.0)')), (7, 2, 2)), (under_optional(define(b'd', b'vec2(1, 2).z')), (7, 2, 10)), (under_optional(define(b'd', b'')), (4, 2, 0)),
+    (under_optional(define(b'd', b'1 --1')), (2, 2, 2)), (under_optional(color(b"color('red') * vec4(0.5)")), (1, 0, 1)), (b'', (0, 0, 0)),
     (lines(*COLUMNS[:32]), (32, 0, 0)), (lines(*COLUMNS[:33]), (8, 33, 0)), (lines(*DEFINES[:16]), (0, 16, 16)), (lines(*DEFINES[:17]), (8, 17, 0)),
     (lines(*[cond()] * 16), (0, 0, 32)), (lines(*[cond()] * 17), (8, 17, 0)), (lines(show(), show()), (8, 2, 0)), (lines(color(), color()), (8, 2, 0)),
     (lines(color(), cond()), (8, 2, 0)), (lines(cond(), color()), (8, 2, 0)), (lines(show(), prop()), (8, 2, 0)), (lines(define(b'd'), prop()), (8, 2, 0)), (lines(show(), define(b'd')), (8, 2, 0)),
     (lines(row(b'prop', b'A', b'Number')), (8, 1, 13)), (lines(prop(b'A b')), (8, 1, 5)), (lines(prop(b'A', b'Int')), (8, 1, 7)), (lines(prop(b'A', b'Number', b'x')), (8, 1, 14)),
     (lines(prop(b'a' * 64)), (1, 0, 0)), (lines(prop(b'a' * 65)), (8, 1, 5)), (lines(prop(), prop()), (8, 2, 5)), (lines(define(b'd'), define(b'd')), (8, 2, 7)),
-    (lap(show(b'1' + b' ' * 1024)), (1, 2, 1024)), (lap(show(b'1' + b' ' * 1023)), (7, 2, 1024)), (lap(show(b'(' * 33)), (3, 2, 32)), (lap(show(b'!' + unary_chain(64))), (5, 2, 0)),
-    (lap(color(b"color('rad')")), (6, 2, 6)),
-    (lap(cond(b'1', b'1')), (7, 2, 1)), (lap(cond(b'true', b'1')), (7, 2, 1)),
-    (lap(cond(b'true', b'vec3(1)')), (7, 2, 7)), (lap(define(b'Lap', b'1'), show(b'${Lap} < 0.2')), (1, 1, 2)), (lap(define(b'Lap', b'${Lap} < 1')), (7, 2, 7)),
-    (lap(define(b'd', b'1'), define(b'e', b'${d} + 1')), (7, 3, 5)), (lap(define(b'd', b'1'), define(b'e', b'${d} === undefined'), show(b'${e}')), (1, 2, 3)), (lap(show(b'${lap} < 1')), (7, 2, 7)),
-    (lap(define(b'd', b'true ? 1 : null')), (1, 1, 1)),
+    (under_optional(show(b'1' + b' ' * 1024)), (1, 2, 1024)), (under_optional(show(b'1' + b' ' * 1023)), (7, 2, 1024)), (under_optional(show(b'(' * 33)), (3, 2, 32)), (under_optional(show(b'!' + unary_chain(64))), (5, 2, 0)),
+    (under_optional(color(b"color('rad')")), (6, 2, 6)),
+    (under_optional(cond(b'1', b'1')), (7, 2, 1)), (under_optional(cond(b'true', b'1')), (7, 2, 1)),
+    (under_optional(cond(b'true', b'vec3(1)')), (7, 2, 7)), (under_optional(define(b'Lap', b'1'), show(b'${Lap} < 0.2')), (1, 1, 2)), (under_optional(define(b'Lap', b'${Lap} < 1')), (7, 2, 7)),
+    (under_optional(define(b'd', b'1'), define(b'e', b'${d} + 1')), (7, 3, 5)), (under_optional(define(b'd', b'1'), define(b'e', b'${d} === undefined'), show(b'${e}')), (1, 2, 3)), (under_optional(show(b'${lap} < 1')), (7, 2, 7)),
+    (under_optional(define(b'd', b'true ? 1 : null')), (1, 1, 1)),
     # the points that page 01 leaves open
-    (b'\n', (8, 1, 0)), (LAP + b'\n\n', (8, 2, 0)), (LAP, (1, 0, 0)), (LAP + b'\n', (1, 0, 0)), (b'\n' + LAP, (8, 1, 0)), (LAP + b'\r\n', (8, 1, 16)), (lap(show(b'true\r')), (2, 2, 4)),
+    (b'\n', (8, 1, 0)), (OPTIONAL + b'\n\n', (8, 2, 0)), (OPTIONAL, (1, 0, 0)), (OPTIONAL + b'\n', (1, 0, 0)), (b'\n' + OPTIONAL, (8, 1, 0)), (OPTIONAL + b'\r\n', (8, 1, 16)), (under_optional(show(b'true\r')), (2, 2, 4)),
     (lines(b'feat'), (8, 1, 0)),
-    (lap(row(b'feat', b'1')), (8, 2, 0)), (lap(b'feature'), (8, 2, 0)), (lines(prop(b'A', b'Number', b'na')), (8, 1, 14)), (lines(prop(b'A', b'Number', b'')), (8, 1, 14)),
+    (under_optional(row(b'feat', b'1')), (8, 2, 0)), (under_optional(b'feature'), (8, 2, 0)), (lines(prop(b'A', b'Number', b'na')), (8, 1, 14)), (lines(prop(b'A', b'Number', b'')), (8, 1, 14)),
     (lines(prop(b'9')), (1, 0, 0)),
     (lines(prop(b'true')), (1, 0, 0)), (lines(prop(b'')), (8, 1, 5)), (lines(prop(b'\xe9')), (8, 1, 5)), (lines(prop(), define(b'A')), (1, 1, 1)), (lines(define(b'd', b'')), (4, 1, 0)),
     (lines(row(b'define', b'd')), (8, 1, 8)), (lines(cond(), show()), (0, 0, 3)), (lines(color(), show()), (0, 0, 2)), (lines(row(b'show', b'true', b'')), (8, 1, 10)), (lines(b'show'), (8, 1, 4)),
@@ -540,7 +540,7 @@ ABSENT, NONE = Value(UNDEFINED), Value(NULL)
 # A head, a number and a line, with the refusal's number and place or with the values.
 STATED_FEATURES = [
     # page 01
-    (LEDGER, 1, b'feat\t39\t0.25', [num(39), num(0.25)]), (LEDGER, 2, b'feat\t40\t', [num(40), ABSENT]), (LEDGER, 3, b'feat\tx\t0.3', (9, 5)),
+    (SAMPLE_HEAD, 1, b'feat\t39\t0.25', [num(39), num(0.25)]), (SAMPLE_HEAD, 2, b'feat\t40\t', [num(40), ABSENT]), (SAMPLE_HEAD, 3, b'feat\tx\t0.3', (9, 5)),
     (FIVE, 1, b'feat\ttrue\t-0\t=abc\t1 -2.5\t0 0 0 1', [truth(True), num(-0.0), string(14, 17), vector(1, -2.5), vector(0, 0, 0, 1)]),
     (FIVE, 1, b'feat\tfalse\t0.1\t=\t0 0\tnull', [truth(False), num(0.1), string(16, 16), vector(0, 0), NONE]),
     (FIVE, 1, b'feat\ttrue\t1\t=\t0 0\t', [truth(True), num(1), string(13, 13), vector(0, 0), ABSENT]),
@@ -1334,8 +1334,8 @@ def example_heads(source):
     texts = [head for head, _ in STATED]
     for i, line in enumerate(EXAMPLES.strip('\n').split('\n')):
         text = line.encode()
-        other = [lap(prop(b'Line'), show(text), color(b"color('red')")), lines(prop(b'Height'), define(b'Height', b'${Height} / 2'), cond(b'${Height} > 1', text))]
-        texts += [lap(define(b'd', text)), other[1 - i % 2]]
+        other = [under_optional(prop(b'Line'), show(text), color(b"color('red')")), lines(prop(b'Height'), define(b'Height', b'${Height} / 2'), cond(b'${Height} > 1', text))]
+        texts += [under_optional(define(b'd', text)), other[1 - i % 2]]
     height = lines(prop(b'Height'), define(b'NewHeight', b'clamp((${Height} - 0.5) / 2.0, 1.0, 255.0)'), define(b'HeightColor', b'rgb(${Height}, ${Height}, ${Height})'))
     texts += [height + lines(*rows) for rows in (
         [color(b"color('#00FF00') * ${HeightColor}"), show(b'${NewHeight} < 200.0')],
@@ -1358,11 +1358,11 @@ def word_heads(source):
     """Unknown words with all shapes of lines behind them, on several lines."""
     texts = []
     for i, word in enumerate(BAD_WORDS):
-        texts += [lines(row(word, *SHAPES[j % 6])) for j in (i, i + 1, i + 3)] + [lap(row(word, *SHAPES[i % 6])), lap(define(b'd'), row(word, *SHAPES[(i + 1) % 6]), show())]
-        texts += [lap(define(b'd'), show(), row(word, *SHAPES[(i + 2) % 6])), lap(prop(b'B'), prop(b'C'), row(word, *SHAPES[(i + 3) % 6]), prop(b'D')),
-            lap(cond(), cond(), row(word, *SHAPES[(i + 4) % 6]))]
-    return heads(texts + [lines(row(b'', b'prop', b'A', b'Number', b'-')), lines(b'\t'), lines(b'\t\t\t'), lap(b'\t'), lap(b' show\ttrue'), lap(b'feat\t1', prop(b'B')), lap(b'feat'),
-        lap(show(), b'feat\t')])
+        texts += [lines(row(word, *SHAPES[j % 6])) for j in (i, i + 1, i + 3)] + [under_optional(row(word, *SHAPES[i % 6])), under_optional(define(b'd'), row(word, *SHAPES[(i + 1) % 6]), show())]
+        texts += [under_optional(define(b'd'), show(), row(word, *SHAPES[(i + 2) % 6])), under_optional(prop(b'B'), prop(b'C'), row(word, *SHAPES[(i + 3) % 6]), prop(b'D')),
+            under_optional(cond(), cond(), row(word, *SHAPES[(i + 4) % 6]))]
+    return heads(texts + [lines(row(b'', b'prop', b'A', b'Number', b'-')), lines(b'\t'), lines(b'\t\t\t'), under_optional(b'\t'), under_optional(b' show\ttrue'), under_optional(b'feat\t1', prop(b'B')), under_optional(b'feat'),
+        under_optional(show(), b'feat\t')])
 
 
 RIGHT = {b'prop': [b'A', b'Number', b'-'], b'define': [b'd', b'1'], b'show': [b'true'], b'color': [b'color()'], b'cond': [b'true', b'color()']}
@@ -1449,7 +1449,7 @@ def order_heads(source):
 
 def end_heads(source):
     """Ends of lines, and lines with nothing in them."""
-    whole = [LAP, define(b'd', b'${Lap}'), show(), cond()]
+    whole = [OPTIONAL, define(b'd', b'${Lap}'), show(), cond()]
     texts = [b'', b'\n', b'\n\n', b'\r', b'\r\n', b'\r\n\r\n', b' ', b' \n', b'\t', b'\t\n', b'\0', b'\0\n', b'\n' * 100, b'\x1a']
     for count in range(1, 5):
         rows = whole[:count]
@@ -1503,10 +1503,10 @@ def counted_limits(source):
             lines(*columns, show(b'${p%d} < ${p%d}' % (count - 1, count // 2)))]
     for count in (1, 2, 14, 15, 16, 17, 18, 20):
         rows = DEFINES[:count]
-        texts += [lines(*rows), lines(LAP, *rows, show(b'${d%d} < ${Lap}' % (count - 1))), lines(*rows, color(b'vec4(${d%d})' % (count - 1))), lines(*rows, define(b'!')),
+        texts += [lines(*rows), lines(OPTIONAL, *rows, show(b'${d%d} < ${Lap}' % (count - 1))), lines(*rows, color(b'vec4(${d%d})' % (count - 1))), lines(*rows, define(b'!')),
             lines(*rows, row(b'define')), lines(*rows, define(b'd0'))]
         colours = [cond(b'${Lap} === %d' % i, b'vec4(%d)' % i) for i in range(count)]
-        texts += [lap(*colours), lap(show(), *colours), lap(*colours, show()), lap(*colours, row(b'cond')), lap(*colours, cond(b'?', b'?')), lap(*colours[:count // 2], show(), *colours[count // 2:])]
+        texts += [under_optional(*colours), under_optional(show(), *colours), under_optional(*colours, show()), under_optional(*colours, row(b'cond')), under_optional(*colours, cond(b'?', b'?')), under_optional(*colours[:count // 2], show(), *colours[count // 2:])]
     return texts + [lines(show(), show()), lines(show(), row(b'show')), lines(show(), show(b'?')), lines(color(), color()), lines(color(), show(), color(b'?')),
         lines(color(), row(b'color')), lines(show(), color(), show()), lines(cond(), show(), cond(), show())]
 
@@ -1515,12 +1515,12 @@ def limit_heads(source):
     """Every limit at its edge."""
     texts = counted_limits(source) + dense_heads(source)
     for size in (1023, 1024, 1025):
-        texts += [lap(define(b'd', spaced(b'1', size))), lap(show(spaced(b'true', size))), lap(show(spaced(b'1', size))), lap(color(spaced(b'color()', size))),
-            lap(cond(spaced(b'true', size), b'?')), lap(cond(b'true', spaced(b'color()', size)))]
-        texts += [lap(show(b"'" + b'x' * (size - 10) + b"' === ''")), lap(cond(spaced(b'?', size), spaced(b'color()', size))), lap(define(b'!', spaced(b'1', size))),
-            lap(row(b'show', spaced(b'true', size), b'')), lap(show(), show(spaced(b'1', size))), b'x' * size]
-        texts += [lap(cond(b'true' + b' ' * 1020, spaced(b'color()', size))), lap(define(b'd' * 64, b' ' * (size - 8) + b'${Lap}  ')), lines(show(spaced(b'true', size))),
-            lap(define(b'd'), define(b'e'), show(), cond(), cond(b'true', spaced(b'#', size)))]
+        texts += [under_optional(define(b'd', spaced(b'1', size))), under_optional(show(spaced(b'true', size))), under_optional(show(spaced(b'1', size))), under_optional(color(spaced(b'color()', size))),
+            under_optional(cond(spaced(b'true', size), b'?')), under_optional(cond(b'true', spaced(b'color()', size)))]
+        texts += [under_optional(show(b"'" + b'x' * (size - 10) + b"' === ''")), under_optional(cond(spaced(b'?', size), spaced(b'color()', size))), under_optional(define(b'!', spaced(b'1', size))),
+            under_optional(row(b'show', spaced(b'true', size), b'')), under_optional(show(), show(spaced(b'1', size))), b'x' * size]
+        texts += [under_optional(cond(b'true' + b' ' * 1020, spaced(b'color()', size))), under_optional(define(b'd' * 64, b' ' * (size - 8) + b'${Lap}  ')), lines(show(spaced(b'true', size))),
+            under_optional(define(b'd'), define(b'e'), show(), cond(), cond(b'true', spaced(b'#', size)))]
     big = [full_head(MOST_HEAD), full_head(MOST_HEAD, b''), full_head(MOST_HEAD + 1), full_head(MOST_HEAD + 1, b''), b'\n' * 32769]
     return heads(texts + big) + [HeadCase(b'x' * 32769, ROOM - 1)]
 
@@ -1536,11 +1536,11 @@ def expression_heads(source):
     faults = [fault for number in FAULTS for fault in FAULTS[number]] + WRONG_KINDS
     faults += [b'', b' ', b'1', b'1 --1', b'true \x7f', b'\x1f', b'\xa0true', b'(true', b'true)', b'1[4]', b'color', b'show', b"'\xff' === ''", b'${' + b'a' * 65 + b'}', b'${a b}', b'1e3', b'1 == 1']
     for i, fault in enumerate(faults):
-        texts += [lap(make(fault)) for make in PLACES]
-        texts += [lines(PLACES[i % 5](fault)), lap(prop(b'B'), define(b'e'), PLACES[(i + 1) % 5](b'  %s ' % fault) if i % 5 != 4 else define(b'f', fault), row(b'?'))]
+        texts += [under_optional(make(fault)) for make in PLACES]
+        texts += [lines(PLACES[i % 5](fault)), under_optional(prop(b'B'), define(b'e'), PLACES[(i + 1) % 5](b'  %s ' % fault) if i % 5 != 4 else define(b'f', fault), row(b'?'))]
     for a, b in itertools.product([b'#', b'(' * 33, b'1 1', unary_chain(64), b'foo(1)', b'-true', b'1', b'true'],
         [b'1' + b' ' * 1024, b'--', b'(' * 33, b')', b'!' * 65 + b'1', b'1.q', b'!1', b'vec3(1)', b'color()']):
-        texts.append(lap(cond(a, b)))
+        texts.append(under_optional(cond(a, b)))
     return heads(texts)
 
 
@@ -1579,9 +1579,9 @@ def first_heads(source):
     """Several faults: the earlier line counts, and in a line what page 01 puts first."""
     faults = [fault for word in LINE_FAULTS for fault in LINE_FAULTS[word]]
     pairs = list(itertools.product(faults, faults))
-    texts = [lap(a, b) for a, b in pairs[::5]] + [lap(a) for a in faults] + [lap(prop(b'B'), a, show(b'#')) for a in faults] + [lap(show(), a) for a in faults]
-    texts += [lap(color(), a) for a in faults] + [lap(define(b'd'), cond(), a, b'') for a in faults]
-    texts += [lap(*[show() if i % 2 else cond() for i in range(2)], a, b) for a, b in pairs[1::17]] + [lap(show(b'${x}'), a) for a in faults[::2]]
+    texts = [under_optional(a, b) for a, b in pairs[::5]] + [under_optional(a) for a in faults] + [under_optional(prop(b'B'), a, show(b'#')) for a in faults] + [under_optional(show(), a) for a in faults]
+    texts += [under_optional(color(), a) for a in faults] + [under_optional(define(b'd'), cond(), a, b'') for a in faults]
+    texts += [under_optional(*[show() if i % 2 else cond() for i in range(2)], a, b) for a, b in pairs[1::17]] + [under_optional(show(b'${x}'), a) for a in faults[::2]]
     return heads(texts)
 
 
@@ -1590,7 +1590,7 @@ ODD_BYTES = b'\x00\x01\x08\x0b\x0c\x0d\x1b\x1f\x20!"#$%&\'-./09:@AZ[\\`az{|~\x7f
 
 def byte_heads(source):
     """One byte put in or changed, everywhere in a head."""
-    whole = lines(LAP, define(b'd', b"'a' === 'b'"), show(b'${d}'), cond(b'true', b'color()'))
+    whole = lines(OPTIONAL, define(b'd', b"'a' === 'b'"), show(b'${d}'), cond(b'true', b'color()'))
     texts = []
     for i in range(len(whole)):
         odd = [ODD_BYTES[(7 * i + 11 * k) % len(ODD_BYTES)] for k in range(2)] + [chosen(source, [0x80, 0xC3, 0xFF])]
@@ -1603,7 +1603,7 @@ def byte_heads(source):
 
 def room_heads(source):
     """Rooms too small, which counts before all, and rooms larger than need be."""
-    texts = [b'', b'\n', LEDGER, lines(prop(b'!')), lap(show(b'#')), lines(show()), b'feat', lap(cond(b'1', b'1'))]
+    texts = [b'', b'\n', SAMPLE_HEAD, lines(prop(b'!')), under_optional(show(b'#')), lines(show()), b'feat', under_optional(cond(b'1', b'1'))]
     return [HeadCase(text, room) for text in texts for room in (0, 1, 30, 1024, 16384, ROOM - 1)] + [HeadCase(text, room) for text in texts for room in (ROOM + 1, 33000)]
 
 
@@ -1751,11 +1751,11 @@ def line_features(source):
     words = [b'', b' ', b'Feat', b'FEAT', b'fea', b'feat ', b' feat', b'feats', b'feature', b'feat\r', b'feat\n', b'\nfeat', b'feat\0', b'f', b'prop', b'show', b'define', b'\xff', b'feat,',
         b'feat=', b'featfeat', b'null', b'\xef\xbb\xbffeat', b'x' * 100]
     cases = [(head, row(word, *fields)) for word in words for head, fields in ((b'', []), (typed(b'Number'), [b'1']), (typed(b'Number'), [b'x']), (typed(b'Number'), []),
-        (LEDGER, [b'1', b'']), (typed(b'Number'), [b'1', b'2']))]
+        (SAMPLE_HEAD, [b'1', b'']), (typed(b'Number'), [b'1', b'2']))]
     ends = [b'\r', b'\n', b'\r\n', b'\n\n', b' ', b'\t', b'\0', b'\t\r', b'\t\n', b'\nfeat\t1']
     cases += [(head, line + end) for end in ends for head, line in ((b'', b'feat'), (typed(b'Number'), b'feat\t1'), (typed(b'Number', b'a'), b'feat\t'), (typed(b'String'), b'feat\t=a'),
         (typed(b'Boolean'), b'feat\ttrue'), (typed(b'vec2'), b'feat\t1 2'), (typed(b'String', b'n'), b'feat\tnull'))]
-    cases += [(lines(prop(), prop(b'B', b'String')), b'feat\t1%s\t=b' % end) for end in ends] + [(head, b'\n') for head in (b'', LEDGER)] + [(head, b'\t') for head in (b'', LEDGER)]
+    cases += [(lines(prop(), prop(b'B', b'String')), b'feat\t1%s\t=b' % end) for end in ends] + [(head, b'\n') for head in (b'', SAMPLE_HEAD)] + [(head, b'\t') for head in (b'', SAMPLE_HEAD)]
     return [FeatureCase(*pair) for pair in cases]
 
 
@@ -1782,7 +1782,7 @@ def size_features(source):
     plain = [FeatureCase(*pair) for pair in cases] + [FeatureCase(*pair, number) for pair in cases[1:3] for number in (999999, 1000000)] + [FeatureCase(b'', b'x' * 8192)]
     numbers = [0, 1, 2, 255, 65535, 65536, 99999, 999998, 999999, 1000000, 1000001, 1048575, 1048576, 1048577, 1999999, 2 ** 24, 2 ** 31 - 1, 2 ** 31, 2 ** 32 - 1, 2 ** 32, 2 ** 32 + 1,
         2 ** 32 + 999999, 10 ** 12, 2 ** 53, 2 ** 63 - 1, 2 ** 63, 2 ** 63 + 1, 2 ** 64 - 1]
-    lines_of = [(b'', b'feat'), (typed(b'Number'), b'feat\t1'), (typed(b'Number'), b'feat\tx'), (typed(b'Number'), b'feat'), (b'', b''), (LEDGER, b'feat\t39\t0.25'), (b'', b'x' * 4097)]
+    lines_of = [(b'', b'feat'), (typed(b'Number'), b'feat\t1'), (typed(b'Number'), b'feat\tx'), (typed(b'Number'), b'feat'), (b'', b''), (SAMPLE_HEAD, b'feat\t39\t0.25'), (b'', b'x' * 4097)]
     return plain + [FeatureCase(*pair, number) for number in numbers for pair in lines_of[:6 if number not in (0, 999999, 1000000) else 7]]
 
 
