@@ -1,2 +1,2 @@
-pub mod Pages
 pub mod Trees
+pub mod Words

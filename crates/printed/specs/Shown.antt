@@ -8,7 +8,7 @@ use Rattle.lexer.specs.Token.{lexemeAt}
 use Rattle.lexer.specs.declared.token.Lexeme.{Lexeme}
 use Rattle.lexer.specs.declared.token.Lexeme.the-variants.{Found, Bad, End}
 use Rattle.tree.specs.Tree.{Tree, literal, variable, unary, binary, conditional, bare, call, pick, Arguments, last, next}
-use Rattle.printed.specs.Page.{wordOf}
+use Rattle.printed.specs.Word.{wordOf}
 
 -- ---- what stands in the text
 

@@ -3,11 +3,12 @@
 // slots that hold no tree can lead to nodes without end.
 ghost use mathlib.Core.Path.{_≡_};
 ghost use Rattle.tree.specs.Node.{treeAt, argumentsAt};
-ghost use Rattle.printed.specs.Page.{written};
+ghost use Rattle.output.specs.Page.{written};
 ghost use Rattle.printed.specs.Shown.{tokenAt, signOf, openedOf, betweenOf, behindOf, calledOf, commaOf, closedOf, variableOf, nameOf, unaryOf, binaryOf, conditionalOf, callOf, bareOf, pickOf, shown, shownAll};
-use crate::page;
+use crate::word;
 use lexer::token::Lexeme;
 use lexer::token::token_at;
+use output::page;
 use tree::node::Argument;
 use tree::node::MOST_COMMAS;
 use tree::node::Node;
@@ -35,8 +36,8 @@ fn variable(page: &mut [u8], to: usize, number: usize) -> usize
     ensures { λ r. ⌜ (now (page .exit), r) ≡ written (now (page .entry), to) (variableOf number) ⌝ }
 {
     let mut end = page::byte(page, to, b'$');
-    end = page::word(page, end, b"0 1 2 3", number / 16);
-    page::word(page, end, b"0 1 2 3 4 5 6 7 8 9 a b c d e f", number % 16)
+    end = word::word(page, end, b"0 1 2 3", number / 16);
+    word::word(page, end, b"0 1 2 3 4 5 6 7 8 9 a b c d e f", number % 16)
 }
 
 // A variable, by its name at a place or by its number.
@@ -60,7 +61,7 @@ fn named(
 fn sign(page: &mut [u8], to: usize, number: usize) -> usize
     ensures { λ r. ⌜ (now (page .exit), r) ≡ written (now (page .entry), to) (signOf number) ⌝ }
 {
-    page::word(page, to, b"? : || && === !== < <= > >= + - * / % !", number)
+    word::word(page, to, b"? : || && === !== < <= > >= + - * / % !", number)
 }
 
 // What stands before the part of a unary operator.
@@ -85,7 +86,7 @@ fn behind(page: &mut [u8], to: usize, index: usize) -> usize
     ensures { λ r. ⌜ (now (page .exit), r) ≡ written (now (page .entry), to) (behindOf index) ⌝ }
 {
     let mut end = page::byte(page, to, b'[');
-    end = page::word(page, end, b"0 1 2 3", index);
+    end = word::word(page, end, b"0 1 2 3", index);
     page::byte(page, end, b']')
 }
 
@@ -93,7 +94,7 @@ fn behind(page: &mut [u8], to: usize, index: usize) -> usize
 fn called(page: &mut [u8], to: usize, function: usize) -> usize
     ensures { λ r. ⌜ (now (page .exit), r) ≡ written (now (page .entry), to) (calledOf function) ⌝ }
 {
-    let end = page::word(
+    let end = word::word(
         page,
         to,
         b"vec2 vec3 vec4 rgb rgba color isNaN isFinite abs sign floor ceil round fract min max clamp mix dot cross",

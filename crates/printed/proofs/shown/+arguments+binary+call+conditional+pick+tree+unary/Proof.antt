@@ -23,7 +23,7 @@ use Rattle.printed.proofs.shown.+arguments+binary+call+conditional+pick
 use Rattle.printed.proofs.shown.unary.Reads as unary
 use Rattle.printed.proofs.shown.unary.Kinds as unary-kinds
 use Rattle.printed.proofs.shown.+arguments+binary+call+conditional+pick+tree+unary.Lts-unary as unary-lts
-use Rattle.printed.proofs.page.byte.Reads as byte-reads
+use Rattle.output.proofs.page.byte.Reads as byte-reads
 use Rattle.printed.proofs.shown.bare.Reads as bare-reads
 use Rattle.printed.proofs.shown.behind.Reads as behind-reads
 use Rattle.printed.proofs.shown.between.Reads as between-reads
@@ -42,7 +42,7 @@ use borrow.Author.Needs.{needs}
 use Rattle.tree.specs.Node.{treeAt}
 use Rattle.syntax.proofs.Law.Nodes.{arguments-end, arguments-step}
 use Rattle.printed.specs.Shown.{shown}
-use Rattle.printed.proofs.Law.Pages.{full, and-then}
+use Rattle.output.proofs.Law.Pages.{full, and-then}
 use Rattle.printed.proofs.Law.Trees.{shown-step}
 
 -- Each level of the allowance is worth more than the most commas, and a comma more than the tree at its argument.

@@ -1,7 +1,7 @@
 use borrow.Author.Needs.{needs}
 use Rattle.printed.proofs.shown.bare.Statement.{statement}
 use Rattle.printed.proofs.shown.bare.Tie as tie
-use Rattle.printed.proofs.Law.Pages.{and-then}
+use Rattle.output.proofs.Law.Pages.{and-then}
 
 called-requires : tie.Need-called-requires
 called-requires c κs = search needs

@@ -2,7 +2,7 @@ use borrow.Author.Needs.{needs}
 use Rattle.printed.proofs.shown.behind.Statement.{statement}
 use Rattle.printed.proofs.shown.behind.Tie as tie
 use Rattle.printed.specs.Shown.{indexOf}
-use Rattle.printed.proofs.Law.Pages.{and-then}
+use Rattle.output.proofs.Law.Pages.{and-then}
 
 byte-requires : tie.Need-byte-requires
 byte-requires c κs = search needs

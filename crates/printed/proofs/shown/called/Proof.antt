@@ -2,7 +2,7 @@ use borrow.Author.Needs.{needs}
 use Rattle.printed.proofs.shown.called.Statement.{statement}
 use Rattle.printed.proofs.shown.called.Tie as tie
 use Rattle.printed.specs.Shown.{functionOf}
-use Rattle.printed.proofs.Law.Pages.{and-then}
+use Rattle.output.proofs.Law.Pages.{and-then}
 
 slice-aggregate-word : tie.Need-slice-aggregate-word
 slice-aggregate-word c = search needs

@@ -2,7 +2,7 @@ use borrow.Author.Needs.{needs}
 use Rattle.printed.proofs.shown.leaf.Statement.{statement}
 use Rattle.printed.proofs.shown.leaf.Tie as tie
 use mathlib.Core.Path.{sym, _∙_}
-use Rattle.printed.proofs.Law.Pages.{written-none}
+use Rattle.output.proofs.Law.Pages.{written-none}
 
 token-at-requires : tie.Need-token-at-requires
 token-at-requires c κs = search needs

@@ -1,7 +1,7 @@
 use borrow.Author.Needs.{needs}
 use Rattle.printed.proofs.shown.opened.Statement.{statement}
 use Rattle.printed.proofs.shown.opened.Tie as tie
-use Rattle.printed.proofs.Law.Pages.{and-then}
+use Rattle.output.proofs.Law.Pages.{and-then}
 
 byte-requires : tie.Need-byte-requires
 byte-requires c κs = search needs

@@ -1,8 +1,8 @@
 -- `byte` writes one byte, or leaves it out on a full page.
 use borrow.Author.Needs.{needs}
-use Rattle.printed.proofs.page.byte.Statement.{statement}
-use Rattle.printed.proofs.page.byte.Tie as tie
-use Rattle.printed.proofs.Law.Pages.{byte-fits, byte-left-out}
+use Rattle.output.proofs.page.byte.Statement.{statement}
+use Rattle.output.proofs.page.byte.Tie as tie
+use Rattle.output.proofs.Law.Pages.{byte-fits, byte-left-out}
 
 slice-write-page : tie.Need-slice-write-page
 slice-write-page c = search needs

@@ -1,36 +1,9 @@
-// Bytes that are written one behind the other into room that is lent. Each function gives the place
-// where the next byte goes. What does not fit is left out, so a page that is full may lack some.
+// Words of a table, which is a text with one space between two words, written on a page.
 ghost use mathlib.Core.Path.{_≡_};
-ghost use mathlib.Core.List.{_∷_, []};
 ghost use lib.ListN.{drop};
-ghost use lib.Seq.{slice};
-ghost use Rattle.printed.specs.Page.{written, spacesOf, afterSpaces, wordOf};
-
-pub(crate) fn byte(page: &mut [u8], at: usize, b: u8) -> usize
-    ensures { λ r. ⌜ (now (page .exit), r) ≡ written (now (page .entry), at) (b ∷ []) ⌝ }
-{
-    if at < page.len() {
-        page[at] = b;
-        return at + 1;
-    }
-    at
-}
-
-// Those of a text from one place up to another, as far as the text goes.
-pub(crate) fn part(page: &mut [u8], at: usize, text: &[u8], from: usize, to: usize) -> usize
-    ensures { λ r. ⌜ (now (page .exit), r) ≡ written (now (page .entry), at) (slice from to (now (text .entry))) ⌝ }
-{
-    let mut end = at;
-    let mut i = from;
-    while i < text.len() {
-        if to <= i {
-            return end;
-        }
-        end = byte(page, end, text[i]);
-        i += 1;
-    }
-    end
-}
+ghost use Rattle.output.specs.Page.{written};
+ghost use Rattle.printed.specs.Word.{spacesOf, afterSpaces, wordOf};
+use output::page::byte;
 
 // How many spaces a byte is.
 fn spaces(b: u8) -> usize

@@ -1,16 +1,14 @@
 -- Bytes written one behind the other.
 use mathlib.Core.Path.{_≡_, refl, sym, _∙_, ap}
-use mathlib.Core.Bool.{true, false, cond}
 use mathlib.Core.List.{List, [], _∷_, _++_}
-use Prim.Native.Nat.{ℕ, zero, suc, _+_, _-_, _≤_, _<_}
-use native.Mathlib.Nat.{sub-zero}
-use native.Mathlib.Numerals.{add-one, sub-one}
+use Prim.Native.Nat.{ℕ, suc, _+_, _≤_, _<_}
+use native.Mathlib.Nat.{zero-add}
+use native.Mathlib.Numerals.{add-one, unary-clauses}
 use native.Mathlib.Omega.{arith}
-use borrow.Author.Tests.{eq-eqb, ne-eqb, lt-ltb, le-ltb}
-use lib.Dec.{eqb}
-use lib.ListN.{length, set, getD, take, drop, drop-of-length-le, length-take}
-use lib.Seq.{drop-cons, getD-take, slice}
-use Rattle.printed.specs.Page.{byteOn, written, spacesOf, afterSpaces, firstWord}
+use borrow.Author.Tests.{lt-ltb, le-ltb}
+use lib.ListN.{length, set, getD, take, drop, drop-of-length-le, length-take, length-set, length-append}
+use lib.Seq.{drop-cons, getD-take, slice, sets, sets-eq, take-length, take-append-seam}
+use Rattle.output.specs.Page.{byteOn, written}
 
 -- ---- one byte
 
@@ -69,43 +67,31 @@ module _ (text : List ℕ) (i to : ℕ) where
   pub part-past : length text ≤ i → slice i to text ≡ []
   part-past h = drop-of-length-le (take to text) {i = i} (rw (length-take to text) (omega arith))
 
--- ---- a word of a table, by the byte at a place
+pub whole : (p : List ℕ × ℕ) (text : List ℕ) → written p (slice 0 (length text) text) ≡ written p text
+whole p text = ap (written p) (take-length text)
 
-module _ (table : List ℕ) (i : ℕ) where
-  pub word-past : length table ≤ i → firstWord (drop i table) ≡ []
-  unfolding firstWord
-  word-past h = rw (drop-of-length-le table {i = i} h)
+-- ---- bytes that fit
 
-  pub word-stop : i < length table → getD table i 0 ≡ 32 → firstWord (drop i table) ≡ []
-  unfolding firstWord
-  word-stop h e = rw (drop-cons table i 0 h, eq-eqb (getD table i 0) 32 e)
+by-sets : (bs page : List ℕ) (at : ℕ) → at + length bs ≤ length page → written (page, at) bs ≡ (sets page at bs, at + length bs)
+unfolding written
+by-sets [] page at h = simp unary-clauses
+by-sets (b ∷ bs) page at h =
+    let more : suc at + length bs ≤ length (set page at b) = rw (length-set page at b) (omega arith) in
+    rw (lt-ltb at (length page) (omega arith), add-one at) (by-sets bs (set page at b) (suc at) more ∙ ap (λ (n : ℕ). (sets page at (b ∷ bs), n)) (omega arith))
 
-  pub word-more : i < length table → (getD table i 0 ≡ 32 → ⊥) → firstWord (drop i table) ≡ getD table i 0 ∷ firstWord (drop (i + 1) table)
-  unfolding firstWord
-  word-more h e = rw (drop-cons table i 0 h, ne-eqb (getD table i 0) 32 e, add-one i)
+pub at-front : (page bs : List ℕ) → length bs ≤ length page → written (page, 0) bs ≡ (bs ++ drop (length bs) page, length bs)
+at-front page bs h = by-sets bs page 0 (rw zero-add h) ∙ rw (sets-eq bs page 0 (rw zero-add h), zero-add)
 
--- ---- the spaces before it
+-- what was written on a page from its start on, and where it ends
+module _ (page bs : List ℕ) {page′ : List ℕ} {end : ℕ} (fits : length bs ≤ length page) (e : (page′, end) ≡ written (page, 0) bs) where
+  pub end-is : end ≡ length bs
+  end-is = ap (λ (p : List ℕ × ℕ). p .1) (e ∙ at-front page bs fits)
 
-pub spaces-none : (bs : List ℕ) (n : ℕ) → n ≡ 0 → bs ≡ afterSpaces n bs
-unfolding afterSpaces
-spaces-none bs n e = rw e
+  pub read-back : take end page′ ≡ bs
+  read-back = rw (end-is, ap (λ (p : List ℕ × ℕ). p .0) (e ∙ at-front page bs fits)) (take-append-seam bs (drop (length bs) page))
 
-after-nothing : (n : ℕ) → afterSpaces n [] ≡ []
-unfolding afterSpaces
-after-nothing zero = refl
-after-nothing (suc n) = refl
+  pub end-inside : end ≤ length page′
+  end-inside = rw (ap (λ (p : List ℕ × ℕ). p .0) (e ∙ at-front page bs fits), length-append) (omega (arith, end-is))
 
-pub spaces-past : (table : List ℕ) (i n : ℕ) → length table ≤ i → drop i table ≡ afterSpaces n (drop i table)
-spaces-past table i n h = rw (drop-of-length-le table {i = i} h) (sym (after-nothing n))
-
-after-one : (n b : ℕ) (bs : List ℕ) → (n ≡ 0 → ⊥) → afterSpaces (n - spacesOf b) bs ≡ afterSpaces n (b ∷ bs)
-unfolding afterSpaces
-after-one zero b bs s = absurd (s refl)
-after-one (suc n) b bs s =
-    elim (eqb b 32) as (λ t. afterSpaces (suc n - cond t 1 0) bs ≡ cond t (afterSpaces n bs) (afterSpaces (suc n) bs)) [ true ↦ rw (sub-one (suc n)) | false ↦ rw (sub-zero (suc n)) ]
-
-pub spaces-more : (table : List ℕ) (i n : ℕ) → i < length table → (n ≡ 0 → ⊥) → afterSpaces (n - spacesOf (getD table i 0)) (drop (i + 1) table) ≡ afterSpaces n (drop i table)
-spaces-more table i n h s = rw (drop-cons table i 0 h, add-one i) (after-one n (getD table i 0) (drop (suc i) table) s)
-
-pub spaces-fit : (b n : ℕ) → (n ≡ 0 → ⊥) → spacesOf b ≤ n
-spaces-fit b n s = elim (eqb b 32) as (λ t. cond t 1 0 ≤ n) [ true ↦ omega (arith, s) | false ↦ omega arith ]
+  pub end-read : end ≡ length (take end page′)
+  end-read = rw (read-back) end-is

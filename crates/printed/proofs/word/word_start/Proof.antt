@@ -1,12 +1,12 @@
 -- `word_start` passes byte by byte. The invariant: behind the spaces that are left stands what is looked for.
 use borrow.Author.Needs.{needs}
-use Rattle.printed.proofs.page.word_start.Statement.{statement}
-use Rattle.printed.proofs.page.word_start.Tie as tie
+use Rattle.printed.proofs.word.word_start.Statement.{statement}
+use Rattle.printed.proofs.word.word_start.Tie as tie
 use mathlib.Core.Path.{_≡_, refl, _∙_}
 use Prim.Native.Nat.{_-_}
 use lib.ListN.{length, drop, getD}
-use Rattle.printed.specs.Page.{afterSpaces}
-use Rattle.printed.proofs.Law.Pages.{spaces-none, spaces-past, spaces-more, spaces-fit}
+use Rattle.printed.specs.Word.{afterSpaces}
+use Rattle.printed.proofs.Law.Words.{spaces-none, spaces-past, spaces-more, spaces-fit}
 
 abbrev Inv-loop : tie.InvT-loop
 Inv-loop table number left₀ i₀ left i =

@@ -1,5 +1,5 @@
-use Rattle.printed.proofs.page.spaces.Statement.{statement}
-use Rattle.printed.proofs.page.spaces.Tie as tie
+use Rattle.printed.proofs.word.spaces.Statement.{statement}
+use Rattle.printed.proofs.word.spaces.Tie as tie
 use borrow.Author.Tests.{eq-eqb, ne-eqb}
 
 returns : tie.Need-returns

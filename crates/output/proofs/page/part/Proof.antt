@@ -1,13 +1,13 @@
 -- `part` goes byte by byte. The invariant: with the bytes that are left the page is the whole one.
 use borrow.Author.Needs.{needs}
-use Rattle.printed.proofs.page.part.Statement.{statement}
-use Rattle.printed.proofs.page.part.Tie as tie
+use Rattle.output.proofs.page.part.Statement.{statement}
+use Rattle.output.proofs.page.part.Tie as tie
 use mathlib.Core.Path.{_≡_, refl}
 use Prim.Native.Nat.{_-_}
 use lib.ListN.{length}
 use lib.Seq.{slice}
-use Rattle.printed.specs.Page.{written}
-use Rattle.printed.proofs.Law.Pages.{done, one-more, part-more, part-stop, part-past}
+use Rattle.output.specs.Page.{written}
+use Rattle.output.proofs.Law.Pages.{done, one-more, part-more, part-stop, part-past}
 
 abbrev Inv-loop : tie.InvT-loop
 Inv-loop page₀ at text from to end₀ i₀ page end i =

@@ -1,12 +1,14 @@
 -- `word` goes byte by byte up to a space. The invariant: with the bytes that are left of the word the page is the whole one.
 use borrow.Author.Needs.{needs}
-use Rattle.printed.proofs.page.word.Statement.{statement}
-use Rattle.printed.proofs.page.word.Tie as tie
+use Rattle.printed.proofs.word.word.Statement.{statement}
+use Rattle.printed.proofs.word.word.Tie as tie
 use mathlib.Core.Path.{_≡_, refl}
 use Prim.Native.Nat.{_-_}
 use lib.ListN.{length, drop}
-use Rattle.printed.specs.Page.{written, firstWord, wordOf}
-use Rattle.printed.proofs.Law.Pages.{done, one-more, word-past, word-stop, word-more}
+use Rattle.output.specs.Page.{written}
+use Rattle.printed.specs.Word.{firstWord, wordOf}
+use Rattle.output.proofs.Law.Pages.{done, one-more}
+use Rattle.printed.proofs.Law.Words.{word-past, word-stop, word-more}
 
 abbrev Inv-loop : tie.InvT-loop
 Inv-loop page₀ at table number end₀ i₀ page end i =

@@ -1,0 +1,35 @@
+use borrow.Author.Needs.{needs}
+use Rattle.output.proofs.line.hex_byte.Statement.{statement}
+use Rattle.output.proofs.line.hex_byte.Tie as tie
+use mathlib.Core.Path.{sym}
+use Rattle.output.proofs.Law.Pages.{and-then}
+
+hex-digit-requires : tie.Need-hex-digit-requires
+hex-digit-requires c κs = search needs
+
+byte-requires : tie.Need-byte-requires
+byte-requires c κs = search needs
+
+hex-digit-requires-2 : tie.Need-hex-digit-requires-2
+hex-digit-requires-2 c κs = search needs
+
+byte-requires-2 : tie.Need-byte-requires-2
+byte-requires-2 c κs = search needs
+
+same-length : tie.Need-same-length
+same-length c = search needs
+
+returns : tie.Need-returns
+returns c =
+    rw (sym (c .before .before .before .before .before .before .before .before .hex-digit .ensures), sym (c .before .before .before .hex-digit2 .ensures)) (and-then _ _ _ (c .before .before .before .before .before .before .before .byte .ensures) (c .before .before .byte2 .ensures))
+
+pub hex-byte-spec : {M : Type 1} → statement M
+hex-byte-spec =
+    tie.close
+    (tie.spec
+    hex-digit-requires
+    byte-requires
+    hex-digit-requires-2
+    byte-requires-2
+    same-length
+    returns)

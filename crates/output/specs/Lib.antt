@@ -1,0 +1,3 @@
+-- What the contracts name
+pub mod Page
+pub mod Line

@@ -1,0 +1,3 @@
+// Lines of the output.
+pub mod line;
+pub mod page;
