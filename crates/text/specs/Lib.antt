@@ -1,4 +1,5 @@
 pub mod Parts
+pub mod Head
 pub mod Name
 pub mod Word
 pub mod Slice
