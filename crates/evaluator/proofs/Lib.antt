@@ -6,6 +6,8 @@ pub mod Answers
 pub mod Literals
 pub mod Examples
 pub mod Named
+-- A string's place does not count
+pub mod Alike
 -- The arrays of values: what is stored is read back, and changes no other number's value
 pub mod Stored
 -- What the functions' proofs lean on

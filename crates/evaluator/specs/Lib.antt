@@ -4,3 +4,4 @@ pub mod Eval
 pub mod Arrays
 pub mod Demand
 pub mod Inner
+pub mod Alike

@@ -2,6 +2,6 @@
 mod arguments;
 pub mod evaluate;
 mod literal;
-mod operation;
+pub mod operation;
 mod truth;
 pub mod values;

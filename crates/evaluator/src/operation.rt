@@ -21,7 +21,8 @@ fn is_fault(outcome: Outcome) -> bool
     }
 }
 
-fn value_in(outcome: Outcome) -> Value
+// What is worked out; a fault has no value.
+pub fn value_in(outcome: Outcome) -> Value
     ensures { λ r. ⌜ r ≡ valueIn outcome ⌝ }
 {
     match outcome {

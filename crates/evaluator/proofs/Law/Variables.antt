@@ -1,4 +1,4 @@
--- What follows from one thing that holds of each variable of an expression, or from two, holds of each.
+-- What holds of every place and number holds of each variable of an expression; and what follows from one thing that holds of each, or from two, holds of each.
 use Prim.Native.Nat.{ℕ}
 use Rattle.tree.specs.Tree.{Tree, literal, variable, unary, binary, conditional, bare, call, pick, Arguments, last, next}
 use Rattle.evaluator.specs.Demand.{Variables, VariablesOf}
@@ -23,3 +23,21 @@ module _ {P Q R : ℕ → ℕ → Type 0} (f : (p n : ℕ) → P p n → Q p n �
 
 pub each-variable : {P Q : ℕ → ℕ → Type 0} → ((p n : ℕ) → P p n → Q p n) → (e : Tree) → Variables P e → Variables Q e
 each-variable f e h = both-variables (λ p n h j. f p n h) e h h
+
+module _ {P : ℕ → ℕ → Type 0} (f : (p n : ℕ) → P p n) where
+  mutual
+    unfolding Variables
+
+    pub every-variable : (e : Tree) → Variables P e
+    every-variable (literal p k) = tt
+    every-variable (variable p n) = f p n
+    every-variable (unary p o e) = every-variable e
+    every-variable (binary p o l r) = (every-variable l, every-variable r)
+    every-variable (conditional p q c a b) = (every-variable c, every-variable a, every-variable b)
+    every-variable (bare p g) = tt
+    every-variable (call p g xs) = every-argument xs
+    every-variable (pick p i e) = every-variable e
+
+    every-argument : (xs : Arguments) → VariablesOf P xs
+    every-argument (last e) = every-variable e
+    every-argument (next e q xs) = (every-variable e, every-argument xs)

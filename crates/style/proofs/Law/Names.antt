@@ -23,7 +23,7 @@ use Rattle.style.specs.Tables.{Each, Row, Free, Named}
 use Rattle.style.specs.Inner.{Reads}
 use Rattle.style.specs.declared.tables.Tables.{Tables}
 
-through : {A B : Type 0} (f : A → B) (t : Bool) (a b : A) → f (cond t a b) ≡ cond t (f a) (f b)
+pub through : {A B : Type 0} (f : A → B) (t : Bool) (a b : A) → f (cond t a b) ≡ cond t (f a) (f b)
 through f true a b = refl
 through f false a b = refl
 
@@ -64,7 +64,7 @@ module _
     (step : (k : ℕ) (x : A) (xs : List A) → P k x → r (x ∷ xs) ≡ cond (p (row k)) (pick (row k)) (r xs))
     (free : (k : ℕ) → c ≤ k → k < e → p (row k) ≡ true → pick (row k) ≡ r [])
   where
-    abbrev picked : ℕ → B
+    abbrev pub picked : ℕ → B
     picked j = cond (ltb j (b + e)) (pick j) (r [])
 
     by-first : (n i : ℕ) → i + suc n ≡ e → picked (firstRow p (suc n) (row i)) ≡ cond (p (row i)) (pick (row i)) (picked (firstRow p n (row (suc i))))
@@ -76,7 +76,7 @@ module _
             let s : suc (row i) ≡ row (suc i) = omega (arith, at i, at (suc i)) in
             ap picked (first-later p n (row i) q ∙ ap (firstRow p n) s)
 
-    seek : (n i : ℕ) (xs : List A) → i + n ≡ e → c ≤ i + length xs → length xs ≤ n → Each P i xs → picked (firstRow p n (row i)) ≡ r xs
+    pub seek : (n i : ℕ) (xs : List A) → i + n ≡ e → c ≤ i + length xs → length xs ≤ n → Each P i xs → picked (firstRow p n (row i)) ≡ r xs
     unfolding firstRow
     seek zero i [] h k l ps = ap (λ u. cond u (pick (row i)) (r [])) (le-ltb (row i) (b + e) (omega (arith, at i)))
     seek zero i (x ∷ xs) h k l ps = absurd (omega arith)
@@ -97,12 +97,12 @@ unfolding isName
 name-some [] e = absurd (false≢true e)
 name-some (y ∷ x) e = refl
 
-same-none : (l : List ℕ) → 0 < length l → same [] l ≡ false
+pub same-none : (l : List ℕ) → 0 < length l → same [] l ≡ false
 same-none [] h = absurd (omega arith)
 same-none (y ∷ l) h = refl
 
 -- whether a name stands in a row
-abbrev isIn : List ℕ → Tables → List ℕ → ℕ → Bool
+abbrev pub isIn : List ℕ → Tables → List ℕ → ℕ → Bool
 isIn head t x i = same x (rowAt head (t .starts) (t .ends) i)
 
 -- some stand in the first of n rows from b on, each by its name and kinds, and the other rows are free

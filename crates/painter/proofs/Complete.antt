@@ -1,0 +1,180 @@
+-- An expression without conditional, `&&` or `||` that names no define is refused by 7 exactly if some feature that conforms makes it fail by itself. The feature gives each property its worst: nothing if it may be absent, else
+-- null if it may be null, else a sample of its type.
+use mathlib.Core.Path.{_≡_, refl, sym, _∙_, ap, ap₂, subst}
+use mathlib.Core.Bool.{Bool, true, false, cond, true≢false}
+use mathlib.Core.List.{List, [], _∷_, map}
+use mathlib.Core.Logic.{_↔_}
+use Prim.Native.Nat.{ℕ, suc, _+_, _≤_}
+use native.Mathlib.Omega.{arith}
+use lib.Dec.{T}
+use lib.ListN.{length}
+use Rattle.lexer.specs.Bytes.{same}
+use Rattle.kind.specs.declared.set.Kinds.{Kinds}
+use Rattle.value.specs.Value.{textIn}
+use Rattle.value.specs.declared.value.Value.{Value}
+use Rattle.tree.specs.Tree.{Tree}
+use Rattle.syntax.specs.Judge.{fine, judgedOf}
+use Rattle.checker.specs.Name.{nameAt}
+use Rattle.checker.specs.Property.{Property, undeclared, declared, propertyKinds}
+use Rattle.checker.specs.Kinds as checker
+use Rattle.checker.specs.declared.name.Scope.{Scope}
+use Rattle.checker.specs.declared.name.Scope.the-variants as scope
+use Rattle.checker.specs.declared.check.Verdict.{Verdict}
+use Rattle.checker.specs.declared.check.Verdict.the-variants as verdict
+use Rattle.checker.specs.declared.check.Wanted.{Wanted}
+use Rattle.evaluator.specs.Literal.{literalAt}
+use Rattle.evaluator.specs.Demand.{Worst, Variables, plain, isRefused, fails}
+use Rattle.evaluator.proofs.Complete as evaluator
+use Rattle.evaluator.proofs.Literals.{literal-kind}
+use Rattle.evaluator.proofs.Law.Variables.{each-variable, every-variable}
+use Rattle.style.specs.Style.{Declared, Define, Style, propertyIn, isAmong, defineName, definedIn, kindsIn}
+use Rattle.style.specs.Expression.{Judgement, byKinds, expressionOf}
+use Rattle.style.specs.Expression as judged
+use Rattle.style.specs.Head.{refusedAt, headOf}
+use Rattle.feature.specs.Feature.{enteredOf, answered, valuesOf, AllOf}
+use Rattle.feature.specs.Sample.{absent, null, sample, Given, given, textOf, chosenAt, lineFor, chosenFrom}
+use Rattle.feature.specs.Sample as sampled
+use Rattle.feature.proofs.Samples.{sample-kind, sample-read}
+use Rattle.feature.proofs.Conforming.{read-gives}
+use Rattle.painter.specs.Meaning.{propertyValue}
+use Rattle.painter.specs.Paint.{kindsOf, schemaOf}
+use Rattle.painter.specs.Demand.{ReadsAs, Stands, NoDefine, byItself}
+use Rattle.painter.proofs.Sound.{values-conform}
+use Rattle.painter.proofs.Origins.{IsDeclared, AllDeclared, head-refused, given-schema}
+
+-- ---- the worst feature
+
+abbrev worstGiven : (p : Property) → IsDeclared p → Given
+worstGiven undeclared h = absurd h
+worstGiven (declared t true n) h = given (declared t true n) absent tt
+worstGiven (declared t false true) h = given (declared t false true) null tt
+worstGiven (declared t false false) h = given (declared t false false) sample tt
+
+given-kinds : (p : Property) (h : IsDeclared p) → sampled.kindsOf (worstGiven p h) ≡ propertyKinds p
+given-kinds undeclared h = absurd h
+given-kinds (declared t true n) h = refl
+given-kinds (declared t false true) h = refl
+given-kinds (declared t false false) h = refl
+
+given-worst : (at : ℕ) (p : Property) (h : IsDeclared p) → Worst p (chosenAt at (worstGiven p h))
+given-worst at undeclared h = absurd h
+given-worst at (declared t true n) h = refl
+given-worst at (declared t false true) h = refl
+given-worst at (declared t false false) h = sample-kind at t
+
+-- for each property
+abbrev worstOf : (ds : List Declared) → AllDeclared ds → List Given
+worstOf [] a = []
+worstOf (d ∷ ds) a = worstGiven (d .property) (a .0) ∷ worstOf ds (a .1)
+
+worst-kinds : (ds : List Declared) (a : AllDeclared ds) → map sampled.kindsOf (worstOf ds a) ≡ map kindsOf ds
+worst-kinds [] a = refl
+worst-kinds (d ∷ ds) a = ap₂ (λ (k : Kinds) (ks : List Kinds). k ∷ ks) (given-kinds (d .property) (a .0)) (worst-kinds ds (a .1))
+
+worst-length : (ds : List Declared) (a : AllDeclared ds) → length (worstOf ds a) ≡ length ds
+worst-length [] a = refl
+worst-length (d ∷ ds) a = ap suc (worst-length ds (a .1))
+
+-- so each name has its worst value
+worst-values : (at : ℕ) (ds : List Declared) (a : AllDeclared ds) (x : List ℕ) → Worst (propertyIn ds x) (propertyValue ds (chosenFrom at (worstOf ds a)) x)
+worst-values at [] a x = refl
+worst-values at (d ∷ ds) a x = go (same x (d .name)) (worst-values next ds (a .1) x)
+  where
+    next : ℕ
+    next = at + length (textOf (worstGiven (d .property) (a .0))) + 1
+
+    go : (b : Bool) → Worst (propertyIn ds x) (propertyValue ds (chosenFrom next (worstOf ds (a .1))) x) →
+        Worst (cond b (d .property) (propertyIn ds x)) (cond b (chosenAt at (worstGiven (d .property) (a .0))) (propertyValue ds (chosenFrom next (worstOf ds (a .1))) x))
+    go true h = given-worst at (d .property) (a .0)
+    go false h = h
+
+worst-read : (s : Style) (a : AllDeclared (s .properties)) → length (s .properties) ≤ 32 → ReadsAs s (lineFor (worstOf (s .properties) a)) (chosenFrom 5 (worstOf (s .properties) a))
+worst-read s a few =
+    let gs = worstOf (s .properties) a in
+    let short : length gs ≤ 32 = omega (arith, worst-length (s .properties) a) in
+    (1, ap (λ (ks : List Kinds). enteredOf ks 1 (lineFor gs)) (sym (worst-kinds (s .properties) a)) ∙ sample-read gs short 1 (omega arith))
+
+-- ---- a feature that conforms
+
+pub reads-conform : (s : Style) (feature : List ℕ) (vs : List Value) → ReadsAs s feature vs → AllOf (schemaOf s) vs
+reads-conform s feature vs (n, e) =
+    let r = read-gives (schemaOf s) n feature (ap answered e) in
+    subst (AllOf (schemaOf s)) (ap valuesOf (sym (r .1) ∙ e)) (r .2)
+
+-- ---- names
+
+-- a name that is no define's stands for its property
+defined-none : (ds : List Define) (x : List ℕ) (other : Kinds) → isAmong (map defineName ds) x ≡ false → definedIn ds x other ≡ other
+defined-none [] x other h = refl
+defined-none (d ∷ ds) x other h = go (same x (d .name)) h (defined-none ds x other)
+  where
+    go : (b : Bool) → cond b true (isAmong (map defineName ds) x) ≡ false → (isAmong (map defineName ds) x ≡ false → definedIn ds x other ≡ other) →
+        cond b (d .expression .kinds) (definedIn ds x other) ≡ other
+    go true h rest = absurd (true≢false h)
+    go false h rest = rest h
+
+stand-for : (c : Scope) (s : Style) (text : List ℕ) (e : Tree) → NoDefine c s text e →
+    Variables (λ p n. kindsIn c s (nameAt text p) ≡ propertyKinds (propertyIn (s .properties) (nameAt text p))) e
+stand-for scope.Define s text e h = every-variable (λ p n. refl) e
+stand-for scope.Style s text e h =
+    each-variable (λ p n h. defined-none (s .defines) (nameAt text p) (propertyKinds (propertyIn (s .properties) (nameAt text p))) h) e h
+
+-- ---- a refusal by 7
+
+abbrev isRefusal : Judgement → Bool
+isRefusal (judged.refused n p) = true
+isRefusal (judged.accepted e) = false
+
+by-kinds : (v : Verdict) (text : List ℕ) (e : Tree) → ((p : ℕ) × (byKinds v text e ≡ judged.refused 7 p)) ↔ T (isRefused v)
+by-kinds (verdict.Refused p) text e = ((λ r. tt), (λ r. (p, refl)))
+by-kinds (verdict.Accepted s) text e = ((λ r. absurd (true≢false (sym (ap isRefusal (r .1))))), (λ r. absurd r))
+
+by-syntax : (look : List ℕ → Kinds) (want : Wanted) (text : List ℕ) (tree : Tree) → judgedOf text ≡ fine tree →
+    ((p : ℕ) × (expressionOf look want text ≡ judged.refused 7 p)) ↔ T (isRefused (checker.resultOf want (length text) (checker.kindsOf (λ p n. look (nameAt text p)) tree)))
+unfolding expressionOf
+by-syntax look want text tree h = rw h (by-kinds (checker.resultOf want (length text) (checker.kindsOf (λ p n. look (nameAt text p)) tree)) text tree)
+
+-- ---- the theorems
+
+module _ (c : Scope) (want : Wanted) (s : Style) (text : List ℕ) (tree : Tree) (is-judged : judgedOf text ≡ fine tree) (is-plain : T (plain tree)) (none : NoDefine c s text tree) where
+  -- each name stands for its property
+  looked : Variables (λ p n. kindsIn c s (nameAt text p) ≡ propertyKinds (propertyIn (s .properties) (nameAt text p))) tree
+  looked = stand-for c s text tree none
+
+  pub exactly : length (s .properties) ≤ 32 → AllDeclared (s .properties) →
+      ((p : ℕ) × (expressionOf (kindsIn c s) want text ≡ judged.refused 7 p))
+      ↔ ((feature : List ℕ) × (vs : List Value) × ReadsAs s feature vs × T (fails want (byItself s feature vs text tree)))
+  exactly few a = (
+    (λ r. (
+      line,
+      vs,
+      worst-read s a few,
+      evaluator.worst-fails (λ p n. nameAt text p) (propertyIn (s .properties)) (textIn text line) (literalAt text) (literal-kind text) look tree is-plain looked want (length text)
+          (propertyValue (s .properties) vs) (every-variable (λ p n. worst-values 5 (s .properties) a (nameAt text p)) tree) (refused .0 r),
+    )),
+    (λ w. refused .1
+        (evaluator.exactly (λ p n. nameAt text p) (propertyIn (s .properties)) (textIn text (w .0)) (literalAt text) (literal-kind text) look tree is-plain looked want (length text) .1
+        (propertyValue (s .properties) (w .1), values-conform (s .properties) (w .1) (reads-conform s (w .0) (w .1) (w .2)), w .3))),
+  )
+    where
+      look : ℕ → ℕ → Kinds
+      look p n = kindsIn c s (nameAt text p)
+
+      refused : ((p : ℕ) × (expressionOf (kindsIn c s) want text ≡ judged.refused 7 p)) ↔ T (isRefused (checker.resultOf want (length text) (checker.kindsOf look tree)))
+      refused = by-syntax (kindsIn c s) want text tree is-judged
+
+      line : List ℕ
+      line = lineFor (worstOf (s .properties) a)
+
+      vs : List Value
+      vs = chosenFrom 5 (worstOf (s .properties) a)
+
+-- A head is refused by 7 for such an expression, at its line, exactly if some feature that conforms makes it fail by itself.
+pub refused-exactly : (head : List ℕ) (n : ℕ) (s : Style) (c : Scope) (want : Wanted) (text : List ℕ) (tree : Tree) → Stands head n s c want text → judgedOf text ≡ fine tree →
+    T (plain tree) → NoDefine c s text tree →
+    ((p : ℕ) × (headOf head ≡ refusedAt 7 n p) × (expressionOf (kindsIn c s) want text ≡ judged.refused 7 p))
+    ↔ ((feature : List ℕ) × (vs : List Value) × ReadsAs s feature vs × T (fails want (byItself s feature vs text tree)))
+refused-exactly head n s c want text tree st j t none =
+    let schema = given-schema (st .before) s (st .given) in
+    let e = exactly c want s text tree j t none (schema .0) (schema .1) in
+    ((λ r. e .0 (r .0, r .2)), (λ w. let r = e .1 w in (r .0, head-refused head n s c want text st 7 (r .0) (r .1), r .1)))

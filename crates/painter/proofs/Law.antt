@@ -1,0 +1,5 @@
+pub mod Own
+pub mod Values
+pub mod Places
+pub mod Rows
+pub mod Drawn

@@ -1,0 +1,4 @@
+pub mod Sound
+pub mod Origins
+pub mod Complete
+pub mod Law

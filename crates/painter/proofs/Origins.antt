@@ -1,0 +1,228 @@
+-- Where a head's refusal comes from: a line's own number 8, or an expression that stands there. And what the lines before an expression declare.
+use mathlib.Core.Path.{_≡_, refl, sym, _∙_, ap, ap₂, subst}
+use mathlib.Core.Bool.{Bool, true, false, cond, false≢true, true≢false}
+use mathlib.Core.List.{List, [], _∷_, _++_, map, append-assoc}
+use mathlib.Core.Logic.{_⊎_, inl, inr}
+use Prim.Native.Nat.{ℕ, suc, _+_, _≤_}
+use native.Mathlib.Omega.{arith}
+use borrow.Author.Tests.{eqb-true, eq-eqb, ltb-true}
+use lib.Dec.{eqb, ltb}
+use lib.ListN.{length, length-append}
+use Rattle.lexer.proofs.Law.Runs.{by-test}
+use Rattle.kind.specs.declared.kind.Kind.{Kind}
+use Rattle.checker.specs.Property.{Property, undeclared, declared}
+use Rattle.checker.specs.declared.name.Scope.{Scope}
+use Rattle.checker.specs.declared.check.Wanted.{Wanted}
+use Rattle.text.specs.Parts.{lines, fields, field, fieldStart}
+use Rattle.text.specs.Word.{lineOf, typeOf, flagsOf}
+use Rattle.text.specs.declared.word.Line.{Line}
+use Rattle.text.specs.declared.word.Line.the-variants as word
+use Rattle.text.specs.declared.word.TypeName.{TypeName}
+use Rattle.text.specs.declared.word.TypeName.the-variants as type
+use Rattle.text.specs.declared.word.Flags.{Flags}
+use Rattle.text.specs.declared.word.Flags.the-variants as flags
+use Rattle.style.specs.Style.{Declared, Expression, Style, Entry, empty, with, admits, admitsTo, nameOf, defineName, kindsIn}
+use Rattle.style.specs.Expression.{Judgement, expressionOf}
+use Rattle.style.specs.Expression as judged
+use Rattle.style.specs.Line.{Said, refused, adds, counted, isNew, onExpression, onType, onFlags, propertyLine, defineLine, showLine, colourLine, conditionLine, lineBy, lineSaid}
+use Rattle.style.specs.Head.{Headed, refusedAt, gives, onLine, headFrom, headOf}
+use Rattle.style.proofs.Law.Ladder.{taken, both}
+use Rattle.style.proofs.Law.Loop.{styleIn, isGiven}
+use Rattle.painter.specs.Demand.{Asks, define, show, color, condition, colour, Stands}
+
+-- ---- an expression that is refused refuses its line
+
+on-refused : {j : Judgement} (k : Expression → Said) {m p : ℕ} → j ≡ judged.refused m p → onExpression j k ≡ refused m p
+on-refused k h = ap (λ j. onExpression j k) h
+
+on-accepted : {j : Judgement} (k : Expression → Said) (e : Expression) {x : Said} → j ≡ judged.accepted e → k e ≡ x → onExpression j k ≡ x
+on-accepted k e a h = ap (λ j. onExpression j k) a ∙ h
+
+-- a line that may stand there says what its word makes it say
+said-by : (s : Style) (line : List ℕ) (l : Line) {x : Said} → lineOf (field line 0) ≡ l → admitsTo s l ≡ true → lineBy l s line ≡ x → lineSaid s line ≡ x
+unfolding lineSaid
+said-by s line l e ok h = ap (λ l. cond (admitsTo s l) (lineBy l s line) (refused 8 0)) e ∙ taken (refused 8 0) ok h
+
+-- and one of so many fields what its fields make it say
+said-counted : (line : List ℕ) (n : ℕ) {said x : Said} → length (fields line) ≡ n → said ≡ x → counted line n said ≡ x
+said-counted line n e h = taken (refused 8 (length line)) (eq-eqb (length (fields line)) n e) h
+
+pub asks-refused : {s : Style} {line : List ℕ} {c : Scope} {want : Wanted} {text : List ℕ} → Asks s line c want text → (m p : ℕ) →
+    expressionOf (kindsIn c s) want text ≡ judged.refused m p → lineSaid s line ≡ refused m p
+unfolding defineLine showLine colourLine conditionLine
+asks-refused {s = s} {line = line} (define w ok n new) m p h =
+    said-by s line word.Define w ok (said-counted line 3 n (taken (refused 8 (fieldStart line 1)) new (on-refused _ h)))
+asks-refused {s = s} {line = line} (show w ok n) m p h = said-by s line word.Show w ok (said-counted line 2 n (on-refused _ h))
+asks-refused {s = s} {line = line} (color w ok n) m p h = said-by s line word.Color w ok (said-counted line 2 n (on-refused _ h))
+asks-refused {s = s} {line = line} (condition w ok n) m p h = said-by s line word.Cond w ok (said-counted line 3 n (on-refused _ h))
+asks-refused {s = s} {line = line} (colour w ok n test a) m p h =
+    said-by s line word.Cond w ok (said-counted line 3 n (on-accepted _ test a (on-refused _ h)))
+
+-- ---- and its head
+
+-- the lines before give a style, with which those after them go on
+behind : (before rest : List (List ℕ)) (k : ℕ) (s t : Style) → headFrom k s before ≡ gives t → headFrom k s (before ++ rest) ≡ headFrom (k + length before) t rest
+behind [] rest k s t g =
+    let n : k ≡ k + 0 = omega arith in
+    ap₂ (λ (k : ℕ) (s : Style). headFrom k s rest) n (ap (λ x. styleIn x t) g)
+behind (l ∷ ls) rest k s t g = go (lineSaid s l) (λ x. behind ls rest (suc k) (with s x) t) g
+  where
+    go : (said : Said) → ((x : Entry) → headFrom (suc k) (with s x) ls ≡ gives t → headFrom (suc k) (with s x) (ls ++ rest) ≡ headFrom (suc k + length ls) t rest) →
+        onLine k said (λ x. headFrom (suc k) (with s x) ls) ≡ gives t → onLine k said (λ x. headFrom (suc k) (with s x) (ls ++ rest)) ≡ headFrom (k + length (l ∷ ls)) t rest
+    go (refused m p) onward g = absurd (false≢true (ap isGiven g))
+    go (adds x) onward g =
+        let n : suc k + length ls ≡ k + length (l ∷ ls) = omega arith in
+        onward x g ∙ ap (λ (k : ℕ). headFrom k t rest) n
+
+pub head-refused : (head : List ℕ) (n : ℕ) (s : Style) (c : Scope) (want : Wanted) (text : List ℕ) → Stands head n s c want text → (m p : ℕ) →
+    expressionOf (kindsIn c s) want text ≡ judged.refused m p → headOf head ≡ refusedAt m n p
+unfolding headOf
+head-refused head n s c want text st m p h =
+    let k : 1 + length (st .before) ≡ n = omega (arith, st .number) in
+    ap (headFrom 1 empty) (st .is)
+    ∙ behind (st .before) (st .line ∷ st .after) 1 empty s (st .given)
+    ∙ ap₂ (λ (k : ℕ) said. onLine k said (λ x. headFrom (suc (1 + length (st .before))) (with s x) (st .after))) k (asks-refused (st .asks) m p h)
+
+-- ---- what is declared
+
+-- each of the properties has a type and flags
+abbrev pub IsDeclared : Property → Type 0
+IsDeclared undeclared = ⊥
+IsDeclared (declared t a n) = Unit {0}
+
+abbrev pub AllDeclared : List Declared → Type 0
+AllDeclared [] = Unit {0}
+AllDeclared (d ∷ ds) = IsDeclared (d .property) × AllDeclared ds
+
+-- they are within the sizes too: "32 properties"
+abbrev Schema : List Declared → Type 0
+Schema ds = (length ds ≤ 32) × AllDeclared ds
+
+declared-more : (ds : List Declared) (d : Declared) → AllDeclared ds → IsDeclared (d .property) → AllDeclared (ds ++ d ∷ [])
+declared-more [] d a h = (h, tt)
+declared-more (x ∷ ds) d a h = (a .0, declared-more ds d (a .1) h)
+
+-- ---- a line
+
+module _ (s : Style) (line : List ℕ) where
+  -- it is refused by 8, or as one of its expressions is, or what it adds leaves a schema
+  data Told : Said → Type 0 where
+    eight : (p : ℕ) → Told (refused 8 p)
+    its : {c : Scope} {want : Wanted} {text : List ℕ} {m p : ℕ} → Asks s line c want text → expressionOf (kindsIn c s) want text ≡ judged.refused m p → Told (refused m p)
+    goes : {x : Entry} → (Schema (s .properties) → Schema (with s x .properties)) → Told (adds x)
+
+  tested : (t : Bool) {said : Said} (p : ℕ) → (t ≡ true → Told said) → Told (cond t said (refused 8 p))
+  tested t p f = by-test Told t f (λ _. eight p)
+
+  on-count : (n : ℕ) {said : Said} → (length (fields line) ≡ n → Told said) → Told (counted line n said)
+  on-count n f = tested (eqb (length (fields line)) n) (length line) (λ e. f (eqb-true (length (fields line)) n e))
+
+  on-expression : {c : Scope} {want : Wanted} {text : List ℕ} (k : Expression → Said) → Asks s line c want text →
+      ((e : Expression) → expressionOf (kindsIn c s) want text ≡ judged.accepted e → Told (k e)) → Told (onExpression (expressionOf (kindsIn c s) want text) k)
+  on-expression {c} {want} {text} k a f = go (expressionOf (kindsIn c s) want text) refl
+    where
+      go : (j : Judgement) → expressionOf (kindsIn c s) want text ≡ j → Told (onExpression j k)
+      go (judged.refused m p) h = its a h
+      go (judged.accepted e) h = f e h
+
+  on-flags : (f : Flags) (p : ℕ) (name : List ℕ) (t : Kind) → admitsTo s word.Prop ≡ true → Told (onFlags f p name t)
+  unfolding admits
+  on-flags flags.Unknown p name t ok = eight p
+  on-flags (flags.Known a n) p name t ok =
+      let room = ltb-true (length (s .properties)) 32 (both (ltb (length (s .properties)) 32) _ ok .0) in
+      let d : Declared = record { name = name; property = declared t a n } in
+      let short : length (s .properties ++ d ∷ []) ≤ 32 = omega (arith, room, length-append (s .properties) (d ∷ [])) in
+      goes (λ h. (short, declared-more (s .properties) d (h .1) tt))
+
+  on-type : (f : TypeName) (p : ℕ) (k : Kind → Said) → ((t : Kind) → Told (k t)) → Told (onType f p k)
+  on-type type.Unknown p k g = eight p
+  on-type (type.Known t) p k g = g t
+
+  by-line : (l : Line) → lineOf (field line 0) ≡ l → admitsTo s l ≡ true → Told (lineBy l s line)
+  unfolding propertyLine defineLine showLine colourLine conditionLine
+  by-line word.Prop w ok =
+      on-count 4 (λ n. tested (isNew (map nameOf (s .properties)) (field line 1)) (fieldStart line 1)
+      (λ new. on-type (typeOf (field line 2)) (fieldStart line 2) _ (λ t. on-flags (flagsOf (field line 3)) (fieldStart line 3) (field line 1) t ok)))
+  by-line word.Define w ok =
+      on-count 3 (λ n. tested (isNew (map defineName (s .defines)) (field line 1)) (fieldStart line 1) (λ new. on-expression _ (define w ok n new) (λ e h. goes (λ x. x))))
+  by-line word.Show w ok = on-count 2 (λ n. on-expression _ (show w ok n) (λ e h. goes (λ x. x)))
+  by-line word.Color w ok = on-count 2 (λ n. on-expression _ (color w ok n) (λ e h. goes (λ x. x)))
+  by-line word.Cond w ok = on-count 3 (λ n. on-expression _ (condition w ok n) (λ t h. on-expression _ (colour w ok n t h) (λ e h. goes (λ x. x))))
+  by-line word.Feat w ok = eight 0
+  by-line word.Unknown w ok = eight 0
+
+  line-told : Told (lineSaid s line)
+  unfolding lineSaid
+  line-told = tested (admitsTo s (lineOf (field line 0))) 0 (λ ok. by-line (lineOf (field line 0)) refl ok)
+
+-- ---- the head
+
+-- an expression that stands at a line of a head, and is refused
+pub record Origin (head : List ℕ) (m n p : ℕ) : Type 0 where
+  pub style : Style
+  pub scope : Scope
+  pub want : Wanted
+  pub text : List ℕ
+  pub stands : Stands head n style scope want text
+  pub refused : expressionOf (kindsIn scope style) want text ≡ judged.refused m p
+
+abbrev numberAt : Headed → ℕ
+numberAt (refusedAt m n p) = m
+numberAt (gives s) = 0
+
+abbrev lineAt : Headed → ℕ
+lineAt (refusedAt m n p) = n
+lineAt (gives s) = 0
+
+abbrev placeAt : Headed → ℕ
+placeAt (refusedAt m n p) = p
+placeAt (gives s) = 0
+
+-- the last lines of a head, behind some that give a style
+lines-refused : (head : List ℕ) (m n p : ℕ) (ls before : List (List ℕ)) (s : Style) → lines head ≡ before ++ ls → headFrom 1 empty before ≡ gives s →
+    headFrom (1 + length before) s ls ≡ refusedAt m n p → (m ≡ 8) ⊎ Origin head m n p
+lines-refused head m n p [] before s is g h = absurd (true≢false (ap isGiven h))
+lines-refused head m n p (l ∷ ls) before s is g h =
+    go (lineSaid s l) refl (line-told s l)
+    (λ x e h. let k : 1 + length (before ++ l ∷ []) ≡ suc (1 + length before) = omega (arith, length-append before (l ∷ [])) in
+    lines-refused head m n p ls (before ++ l ∷ []) (with s x) (is ∙ sym (append-assoc before (l ∷ []) ls))
+    (behind before (l ∷ []) 1 empty s g ∙ ap (λ said. onLine (1 + length before) said (λ x. gives (with s x))) e) (ap (λ (k : ℕ). headFrom k (with s x) ls) k ∙ h))
+    h
+  where
+    stands : {c : Scope} {want : Wanted} {text : List ℕ} (i q : ℕ) → Asks s l c want text → expressionOf (kindsIn c s) want text ≡ judged.refused i q →
+        refusedAt i (1 + length before) q ≡ refusedAt m n p → Origin head m n p
+    stands {c} {want} {text} i q a r h =
+        let at : 1 + length before ≡ n = ap lineAt h in
+        record {
+          style = s;
+          scope = c;
+          want = want;
+          text = text;
+          stands = record { before = before; line = l; after = ls; is = is; number = omega (arith, at); given = g; asks = a };
+          refused = r ∙ (λ j. judged.refused (numberAt (h j)) (placeAt (h j)));
+        }
+
+    go : (said : Said) → lineSaid s l ≡ said → Told s l said →
+        ((x : Entry) → lineSaid s l ≡ adds x → headFrom (suc (1 + length before)) (with s x) ls ≡ refusedAt m n p → (m ≡ 8) ⊎ Origin head m n p) →
+        onLine (1 + length before) said (λ x. headFrom (suc (1 + length before)) (with s x) ls) ≡ refusedAt m n p → (m ≡ 8) ⊎ Origin head m n p
+    go (refused i q) e (eight r) onward h = inl (sym (ap numberAt h))
+    go (refused i q) e (its a r) onward h = inr (stands i q a r h)
+    go (adds x) e (goes f) onward h = onward x e h
+
+-- every refusal of a head's lines is an 8, or that of an expression that stands there
+pub refused-origin : (head : List ℕ) (m n p : ℕ) → headOf head ≡ refusedAt m n p → (m ≡ 8) ⊎ Origin head m n p
+unfolding headOf
+refused-origin head m n p h = lines-refused head m n p (lines head) [] empty refl refl h
+
+schema-from : (ls : List (List ℕ)) (k : ℕ) (s : Style) → Schema (s .properties) → (t : Style) → headFrom k s ls ≡ gives t → Schema (t .properties)
+schema-from [] k s a t h = subst (λ (s : Style). Schema (s .properties)) (ap (λ x. styleIn x t) h) a
+schema-from (l ∷ ls) k s a t h = go (lineSaid s l) (line-told s l) (λ x a. schema-from ls (suc k) (with s x) a t) h
+  where
+    go : (said : Said) → Told s l said → ((x : Entry) → Schema (with s x .properties) → headFrom (suc k) (with s x) ls ≡ gives t → Schema (t .properties)) →
+        onLine k said (λ x. headFrom (suc k) (with s x) ls) ≡ gives t → Schema (t .properties)
+    go (refused m p) told rest h = absurd (false≢true (ap isGiven h))
+    go (adds x) (goes g) rest h = rest x (g a) h
+
+-- a style has at most 32 properties, each of them declared
+pub given-schema : (ls : List (List ℕ)) (s : Style) → headFrom 1 empty ls ≡ gives s → (length (s .properties) ≤ 32) × AllDeclared (s .properties)
+given-schema ls s h = schema-from ls 1 empty (omega arith, tt) s h

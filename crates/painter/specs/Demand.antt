@@ -1,0 +1,98 @@
+-- What the three demands speak of: page 01, "Refusal numbers", "Kinds and meaning" and "What each answer owes".
+use mathlib.Core.Path.{_≡_}
+use mathlib.Core.Bool.{true, false, cond}
+use mathlib.Core.List.{List, [], _∷_, _++_, map}
+use Prim.Native.Nat.{ℕ, suc, _≤_}
+use lib.ListN.{length}
+use Rattle.value.specs.Value.{textIn}
+use Rattle.value.specs.declared.apply.Outcome.{Outcome}
+use Rattle.value.specs.declared.value.Value.{Value}
+use Rattle.tree.specs.Tree.{Tree}
+use Rattle.syntax.specs.Judge.{fine, judgedOf}
+use Rattle.checker.specs.Name.{nameAt}
+use Rattle.checker.specs.declared.name.Scope.{Scope}
+use Rattle.checker.specs.declared.name.Scope.the-variants as scope
+use Rattle.checker.specs.declared.check.Wanted.{Wanted}
+use Rattle.checker.specs.declared.check.Wanted.the-variants as wanted
+use Rattle.evaluator.specs.Literal.{literalAt}
+use Rattle.evaluator.specs.Eval.{evalOf}
+use Rattle.evaluator.specs.Demand.{Variables, fails}
+use Rattle.text.specs.Parts.{lines, fields, field}
+use Rattle.text.specs.Word.{lineOf}
+use Rattle.text.specs.declared.word.Line.{Line}
+use Rattle.text.specs.declared.word.Line.the-variants as word
+use Rattle.style.specs.Style.{Expression, Condition, Style, empty, admitsTo, isAmong, defineName, kindsIn}
+use Rattle.style.specs.Expression.{expressionOf}
+use Rattle.style.specs.Expression as judged
+use Rattle.style.specs.Line.{isNew}
+use Rattle.style.specs.Head.{gives, headFrom}
+use Rattle.feature.specs.Feature.{entered, complete, enteredOf, featureOf}
+use Rattle.feature.specs.declared.feature.Feature.the-variants.{Read}
+use Rattle.painter.specs.Meaning.{propertyOutcome, definedOutcome, stringsOf, outcomeOf, isTrue}
+use Rattle.painter.specs.Paint.{schemaOf}
+
+-- ---- what is worked out
+
+-- an outcome, with what its line takes
+pub record Work : Type 0 where
+  pub want : Wanted
+  pub outcome : Outcome
+
+-- none of them meets a fault or ends in a kind that its line doesn't take
+abbrev pub NoneFails : List Work → Type 0
+NoneFails [] = Unit {0}
+NoneFails (w ∷ ws) = (fails (w .want) (w .outcome) ≡ false) × NoneFails ws
+
+module _ (s : Style) (feature : List ℕ) (vs : List Value) where
+  abbrev pub working : Wanted → Expression → Work
+  working want e = record { want = want; outcome = outcomeOf s feature vs e }
+
+  -- "the conditions in turn until one is true, then its colour"
+  abbrev pub untilTrue : List Condition → List Work
+  untilTrue [] = []
+  untilTrue (c ∷ cs) = working wanted.Boolean (c .test) ∷ cond (isTrue s feature vs (c .test)) (working wanted.Vec4 (c .colour) ∷ []) (untilTrue cs)
+
+  -- "What is worked out for a strip is `show`, the conditions in turn until one is true, then its colour, or `color`"
+  abbrev pub workedOut : List Work
+  workedOut = map (working wanted.Boolean) (s .shows) ++ (untilTrue (s .conditions) ++ map (working wanted.Vec4) (s .colours))
+
+  -- "and each define whenever its name is worked out in these": what a name comes to in an expression
+  abbrev pub named : Expression → List ℕ → Outcome
+  named e x = definedOutcome (stringsOf s feature e) 0 (s .defines) (propertyOutcome s vs) x
+
+-- ---- features that conform
+
+-- the line is read as these values under the schema of a style: "neither 1 nor 9 refuses it"
+abbrev pub ReadsAs : Style → List ℕ → List Value → Type 0
+ReadsAs s feature vs = (number : ℕ) × (enteredOf (schemaOf s) number feature ≡ entered (complete vs))
+
+-- ---- an expression at a line of a head
+
+-- The line comes behind others that give a style. Its word may stand there, its count is right and so is its name, and its expressions before this one are accepted: "each 8 first and then its expressions left to right".
+pub data Asks (s : Style) (line : List ℕ) : Scope → Wanted → List ℕ → Type 0 where
+  define : lineOf (field line 0) ≡ word.Define → admitsTo s word.Define ≡ true → length (fields line) ≡ 3 → isNew (map defineName (s .defines)) (field line 1) ≡ true →
+      Asks s line scope.Define wanted.Any (field line 2)
+  show : lineOf (field line 0) ≡ word.Show → admitsTo s word.Show ≡ true → length (fields line) ≡ 2 → Asks s line scope.Style wanted.Boolean (field line 1)
+  color : lineOf (field line 0) ≡ word.Color → admitsTo s word.Color ≡ true → length (fields line) ≡ 2 → Asks s line scope.Style wanted.Vec4 (field line 1)
+  condition : lineOf (field line 0) ≡ word.Cond → admitsTo s word.Cond ≡ true → length (fields line) ≡ 3 → Asks s line scope.Style wanted.Boolean (field line 1)
+  colour : lineOf (field line 0) ≡ word.Cond → admitsTo s word.Cond ≡ true → length (fields line) ≡ 3 → (test : Expression) →
+      expressionOf (kindsIn scope.Style s) wanted.Boolean (field line 1) ≡ judged.accepted test → Asks s line scope.Style wanted.Vec4 (field line 2)
+
+-- The text stands at a line of a head as one of its expressions, and "the checks before are all that the order puts before this expression's" numbers 1 to 7.
+pub record Stands (head : List ℕ) (n : ℕ) (s : Style) (c : Scope) (want : Wanted) (text : List ℕ) : Type 0 where
+  pub before : List (List ℕ)
+  pub line : List ℕ
+  pub after : List (List ℕ)
+  pub is : lines head ≡ before ++ line ∷ after
+  pub number : n ≡ suc (length before)
+  pub given : headFrom 1 empty before ≡ gives s
+  pub asks : Asks s line c want text
+
+-- "naming no define"; "inside a define every name is a property"
+abbrev pub NoDefine : Scope → Style → List ℕ → Tree → Type 0
+NoDefine scope.Define s text e = Unit {0}
+NoDefine scope.Style s text e = Variables (λ p n. isAmong (map defineName (s .defines)) (nameAt text p) ≡ false) e
+
+-- "By itself means from the strip's values, whether or not the style comes to it"
+abbrev pub byItself : Style → List ℕ → List Value → List ℕ → Tree → Outcome
+byItself s feature vs text e = evalOf (record { text = textIn text feature; literals = literalAt text; variables = λ p n. propertyOutcome s vs (nameAt text p) }) e

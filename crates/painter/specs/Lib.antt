@@ -1,0 +1,5 @@
+pub mod Meaning
+pub mod Paint
+pub mod Demand
+-- What the functions promise to each other
+pub mod Arrays

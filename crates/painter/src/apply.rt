@@ -1,0 +1,85 @@
+// A style, as a head was compiled, applied to a feature.
+ghost use mathlib.Core.Path.{_≡_};
+ghost use Rattle.painter.specs.Paint.{answerOf};
+ghost use Rattle.painter.specs.Arrays.{tableSource, drawn, appliedOf};
+use crate::draw;
+use crate::paint::Painted;
+use feature::feature::Feature;
+use feature::feature::read;
+use output::line;
+use style::check::Refusal;
+use style::tables::Tables;
+
+// For values in arrays. The line is written at the front of the buffer, if it fits there.
+fn draw_values(
+    head: &[u8],
+    tables: Tables,
+    room: &[u16],
+    feature: &[u8],
+    number: usize,
+    out: &mut [u8],
+    rows: &mut [usize; 144],
+    floats: &mut [f64; 192],
+) -> Painted
+    ensures { λ r. ⌜ (answerOf r, now (out .exit)) ≡ drawn (tableSource (now (head .entry)) (now (feature .entry)) (now (room .entry)) tables) (tables .counts) number (now (out .entry)) (now (rows .entry)) (now (floats .entry)) ⌝ }
+{
+    let counts = tables.counts;
+    let froms = tables.froms;
+    let tos = tables.tos;
+    let roots = tables.roots;
+    draw::store_defines(head, feature, room, &froms, &tos, &roots, counts.defines, rows, floats);
+    let show = draw::show(head, feature, room, &froms, &tos, &roots, counts.shows, rows, floats);
+    let colouring = draw::colouring(
+        head,
+        feature,
+        room,
+        &froms,
+        &tos,
+        &roots,
+        counts.colours,
+        counts.conditions,
+        rows,
+        floats,
+    );
+    let bytes = line::painted(out, number, show, colouring);
+    Painted::Painted {
+        show,
+        colouring,
+        bytes,
+    }
+}
+
+// The answer for a feature by the tables and the room that `compile` leaves. An accepted feature's line
+// is written at the front of the buffer; one that has no space for it stays as it is.
+pub fn apply(
+    head: &[u8],
+    tables: Tables,
+    room: &[u16],
+    feature: &[u8],
+    number: usize,
+    out: &mut [u8],
+) -> Painted
+    ensures { λ r. ⌜ (answerOf r, now (out .exit)) ≡ appliedOf (now (head .entry)) tables (now (room .entry)) (now (feature .entry)) number (now (out .entry)) ⌝ }
+{
+    let sets = tables.sets;
+    let properties = tables.counts.properties;
+    let mut rows = [0usize; 144];
+    let mut floats = [0.0f64; 192];
+    match read(&sets, properties, number, feature, &mut rows, &mut floats) {
+        Feature::Refused { number: n, place: p } => Painted::Refused(Refusal {
+            number: n,
+            line: number,
+            place: p,
+        }),
+        Feature::Read => draw_values(
+            head,
+            tables,
+            room,
+            feature,
+            number,
+            out,
+            &mut rows,
+            &mut floats,
+        ),
+    }
+}

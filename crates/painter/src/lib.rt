@@ -1,0 +1,4 @@
+// The painter: a style's head and a feature's line, and the line that is written for it.
+pub mod apply;
+mod draw;
+pub mod paint;
