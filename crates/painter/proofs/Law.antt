@@ -3,3 +3,5 @@ pub mod Values
 pub mod Places
 pub mod Rows
 pub mod Drawn
+pub mod Turns
+pub mod Calls

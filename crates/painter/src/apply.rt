@@ -27,8 +27,28 @@ fn draw_values(
     let froms = tables.froms;
     let tos = tables.tos;
     let roots = tables.roots;
-    draw::store_defines(head, feature, room, &froms, &tos, &roots, counts.defines, rows, floats);
-    let show = draw::show(head, feature, room, &froms, &tos, &roots, counts.shows, rows, floats);
+    draw::store_defines(
+        head,
+        feature,
+        room,
+        &froms,
+        &tos,
+        &roots,
+        counts.defines,
+        rows,
+        floats,
+    );
+    let show = draw::show(
+        head,
+        feature,
+        room,
+        &froms,
+        &tos,
+        &roots,
+        counts.shows,
+        rows,
+        floats,
+    );
     let colouring = draw::colouring(
         head,
         feature,
@@ -66,7 +86,10 @@ pub fn apply(
     let mut rows = [0usize; 144];
     let mut floats = [0.0f64; 192];
     match read(&sets, properties, number, feature, &mut rows, &mut floats) {
-        Feature::Refused { number: n, place: p } => Painted::Refused(Refusal {
+        Feature::Refused {
+            number: n,
+            place: p,
+        } => Painted::Refused(Refusal {
             number: n,
             line: number,
             place: p,

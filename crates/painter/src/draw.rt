@@ -147,7 +147,17 @@ fn condition(
     while k < count {
         let row = CONDITIONS + 2 * k;
         if is_true(row_value(head, feature, room, froms, tos, roots, rows, floats, row)) {
-            return colour(head, feature, room, froms, tos, roots, rows, floats, row + 1);
+            return colour(
+                head,
+                feature,
+                room,
+                froms,
+                tos,
+                roots,
+                rows,
+                floats,
+                row + 1,
+            );
         }
         k += 1;
     }
@@ -173,7 +183,17 @@ pub(crate) fn colouring(
         return colour(head, feature, room, froms, tos, roots, rows, floats, COLOUR);
     }
     if 0 < conditions {
-        return condition(head, feature, room, froms, tos, roots, conditions, rows, floats);
+        return condition(
+            head,
+            feature,
+            room,
+            froms,
+            tos,
+            roots,
+            conditions,
+            rows,
+            floats,
+        );
     }
     Colouring::Of(Colour::WHITE)
 }

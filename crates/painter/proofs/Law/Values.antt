@@ -100,10 +100,11 @@ module _ (head : List ℕ) (t : Tables) where
   properties-in rows floats x i [] vs rs f = tt
   properties-in rows floats x i (d ∷ ds) [] rs f = tt
   properties-in rows floats x i (d ∷ ds) (v ∷ vs) rs f =
-      let here : i + 0 ≡ i = omega arith in
-      ((rs .0 .is, (rw here at (f 0 (omega arith)))),
-      properties-in rows floats x (suc i) ds vs (rs .1)
-      (λ k h. let e : i + suc k ≡ suc i + k = omega arith in rw e at (f (suc k) (omega arith))))
+      let here : i + 0 ≡ i = omega arith in (
+        (rs .0 .is, (rw here at (f 0 (omega arith)))),
+        properties-in rows floats x (suc i) ds vs (rs .1)
+            (λ k h. let e : i + suc k ≡ suc i + k = omega arith in rw e at (f (suc k) (omega arith))),
+      )
 
   -- no property has an empty name
   none-empty : (i : ℕ) (ds : List Declared) (vs : List Value) → PropertyRows i ds → propertyValue ds vs [] ≡ Undefined

@@ -1,0 +1,46 @@
+-- `apply`: what was read, and then what is drawn for it.
+use lib.Ieee.{ofBits}
+use Rattle.painter.proofs.Law.Calls.{applied-refused, applied-read}
+use borrow.Author.Needs.{needs}
+use Rattle.painter.proofs.apply.apply.Statement.{statement}
+use Rattle.painter.proofs.apply.apply.Tie as tie
+use Rattle.painter.proofs.apply.apply.Reads as reads
+use Rattle.painter.proofs.apply.apply.Lts as lts
+use Rattle.feature.proofs.feature.read.Reads as read-reads
+use Rattle.painter.proofs.apply.draw_values.Reads as draw-values-reads
+
+read-requires : tie.Need-read-requires
+read-requires c κs = search needs
+
+enum-known-n : tie.Need-enum-known-n
+enum-known-n c = search needs
+
+enum-told : tie.Need-enum-told
+enum-told c = search needs
+
+draw-values-requires : tie.Need-draw-values-requires
+draw-values-requires c κs = search needs
+
+returns : tie.Need-returns
+returns c =
+    applied-refused (c .before .before .before .before .before .before .before .before .before .before .before .before .args .head .now) (c .before .before .before .before .before .before .before .before .before .before .before .before .args .tables) (c .before .before .before .before .before .before .before .before .before .before .before .before .args .room .now) (c .before .before .before .before .before .before .before .before .before .before .before .before .args .feature .now) (c .before .before .before .before .before .before .before .before .before .before .before .before .args .number) (c .before .before .before .before .before .before .before .before .before .before .before .before .args .out .now) _ (c .before .before .before .read .ensures .0) _ _ (c .before .n .given .1)
+
+same-length : tie.Need-same-length
+same-length c = search needs
+
+returns-2 : tie.Need-returns-2
+unfolding ofBits
+returns-2 c =
+    applied-read (c .before .before .before .before .before .before .before .before .before .before .before .before .before .before .before .before .before .args .head .now) (c .before .before .before .before .before .before .before .before .before .before .before .before .before .before .before .before .before .args .tables) (c .before .before .before .before .before .before .before .before .before .before .before .before .before .before .before .before .before .args .room .now) (c .before .before .before .before .before .before .before .before .before .before .before .before .before .before .before .before .before .args .feature .now) (c .before .before .before .before .before .before .before .before .before .before .before .before .before .before .before .before .before .args .number) (c .before .before .before .before .before .before .before .before .before .before .before .before .before .before .before .before .before .args .out .now) _ (c .before .before .before .before .before .before .before .before .read .ensures .0) (c .before .before .before .before .before .before .enum-told .given .1) _ _ (c .before .before .before .before .before .before .before .before .read .ensures .1) _ _ (c .before .before .draw-values .ensures)
+
+pub apply-spec : {M : Type 1} → statement M
+apply-spec =
+    tie.close
+    (tie.spec
+    read-requires
+    enum-known-n
+    enum-told
+    draw-values-requires
+    returns
+    same-length
+    returns-2)

@@ -1,0 +1,29 @@
+-- `colour`: the row's value, as a colour, clamped.
+use mathlib.Core.Path.{_∙_, ap}
+use Rattle.colour.specs.Colour.{clampedOf}
+use Rattle.value.specs.Value.{colourIn}
+use Rattle.output.specs.declared.line.Colouring.the-variants.{Of}
+use borrow.Author.Needs.{needs}
+use Rattle.painter.proofs.draw.colour.Statement.{statement}
+use Rattle.painter.proofs.draw.colour.Tie as tie
+use Rattle.painter.proofs.draw.colour.Reads as reads
+use Rattle.painter.proofs.draw.colour.Lts as lts
+use Rattle.colour.proofs.colour.Colour.clamped.Reads as clamped-reads
+use Rattle.painter.proofs.draw.row_value.Reads as row-value-reads
+use Rattle.value.proofs.value.colour_of.Reads as colour-of-reads
+
+row-value-requires : tie.Need-row-value-requires
+row-value-requires c κs = search needs
+
+colour-of-requires : tie.Need-colour-of-requires
+colour-of-requires c κs = search needs
+
+clamped-requires : tie.Need-clamped-requires
+clamped-requires c κs = search needs
+
+returns : tie.Need-returns
+returns c =
+    ap Of (c .clamped .ensures ∙ ap clampedOf (c .before .colour-of .ensures ∙ ap colourIn (c .before .before .row-value .ensures)))
+
+pub colour-spec : {M : Type 1} → statement M
+colour-spec = tie.close (tie.spec row-value-requires colour-of-requires clamped-requires returns)

@@ -1,0 +1,94 @@
+-- `condition`: the loop's turns.
+use borrow.Author.Needs.{needs}
+use mathlib.Core.Path.{sym, _∙_, ap}
+use native.Mathlib.Omega.{arith}
+use Rattle.style.proofs.Law.Ladder.{taken}
+use Rattle.painter.specs.Arrays.{few}
+use Prim.Native.Nat.{_-_}
+use Rattle.value.specs.Value.{truth}
+use Rattle.painter.specs.Arrays.{source}
+use Rattle.painter.proofs.Law.Turns.{few-most, Seeking, seeking-start, seeking-found, seeking-turn, seeking-end}
+use Rattle.painter.proofs.draw.condition.Statement.{statement}
+use Rattle.painter.proofs.draw.condition.Tie as tie
+use Rattle.painter.proofs.draw.condition.Reads as reads
+use Rattle.painter.proofs.draw.condition.Lts as lts
+use Rattle.painter.proofs.draw.at_most.Reads as at-most-reads
+use Rattle.painter.proofs.draw.colour.Reads as colour-reads
+use Rattle.painter.proofs.draw.row_value.Reads as row-value-reads
+use Rattle.value.proofs.value.is_true.Reads as is-true-reads
+
+abbrev Inv-loop : tie.InvT-loop
+Inv-loop head feature room froms tos roots conditions rows floats count k₀ k =
+    Seeking (source head feature room froms tos roots) rows floats (few conditions) k
+
+abbrev μ-loop : tie.MeasureT-loop
+μ-loop head feature room froms tos roots conditions rows floats count k₀ k =
+    count - k
+
+at-most-requires : tie.Need-at-most-requires Inv-loop μ-loop
+at-most-requires c κs = search needs
+
+loop-holds : tie.Need-loop-holds Inv-loop μ-loop
+loop-holds c =
+    seeking-start _ _ _ _
+
+mul-row : tie.Need-mul-row Inv-loop μ-loop
+mul-row c =
+    omega (arith, few-most (c .before .before .before .before .before .before .args .conditions), c .before .before .at-most .ensures, c .loop-test .taken)
+
+add-row : tie.Need-add-row Inv-loop μ-loop
+add-row c =
+    omega (arith, few-most (c .before .before .before .before .before .before .args .conditions), c .before .before .at-most .ensures, c .loop-test .taken)
+
+row-value-requires : tie.Need-row-value-requires Inv-loop μ-loop
+row-value-requires c κs = search needs
+
+is-true-requires : tie.Need-is-true-requires Inv-loop μ-loop
+is-true-requires c κs = search needs
+
+add-colour : tie.Need-add-colour Inv-loop μ-loop
+add-colour c =
+    omega (arith, few-most (c .before .before .before .before .before .before .before .before .before .args .conditions), c .before .before .before .before .before .at-most .ensures, c .before .before .before .loop-test .taken)
+
+colour-requires : tie.Need-colour-requires Inv-loop μ-loop
+colour-requires c κs = search needs
+
+returns : tie.Need-returns Inv-loop μ-loop
+returns c =
+    seeking-found _ _ _ _ _ (c .before .before .before .before .before .loop .inv) (omega (arith, c .before .before .before .before .before .before .at-most .ensures, c .before .before .before .before .loop-test .taken)) (ap truth (sym (c .before .before .before .row-value .ensures)) ∙ sym (c .before .before .is-true .ensures) ∙ c .before .if1 .taken) _ (c .colour .ensures)
+
+add-k : tie.Need-add-k Inv-loop μ-loop
+add-k c =
+    omega (arith, few-most (c .before .before .before .before .before .before .before .before .before .args .conditions), c .before .before .before .before .before .at-most .ensures, c .before .before .before .loop-test .taken)
+
+loop-less : tie.Need-loop-less Inv-loop μ-loop
+loop-less c =
+    omega (arith, c .before .before .before .loop-test .taken)
+
+loop-again : tie.Need-loop-again Inv-loop μ-loop
+loop-again c =
+    seeking-turn _ _ _ _ _ (c .before .before .before .before .loop .inv) (omega (arith, c .before .before .before .before .before .at-most .ensures, c .before .before .before .loop-test .taken)) (ap truth (sym (c .before .before .row-value .ensures)) ∙ sym (c .before .is-true .ensures) ∙ c .if1 .left)
+
+returns-2 : tie.Need-returns-2 Inv-loop μ-loop
+returns-2 c =
+    seeking-end _ _ _ _ _ (c .before .loop .inv) (omega (arith, c .before .before .at-most .ensures, c .loop-test .left))
+
+pub condition-spec : {M : Type 1} → statement M
+condition-spec =
+    tie.close
+    (tie.spec
+    Inv-loop
+    μ-loop
+    at-most-requires
+    loop-holds
+    mul-row
+    add-row
+    row-value-requires
+    is-true-requires
+    add-colour
+    colour-requires
+    returns
+    add-k
+    loop-less
+    loop-again
+    returns-2)

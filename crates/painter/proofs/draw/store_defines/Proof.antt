@@ -1,0 +1,72 @@
+-- `store_defines`: the loop's turns.
+use borrow.Author.Needs.{needs}
+use native.Mathlib.Omega.{arith}
+use Rattle.style.proofs.Law.Ladder.{taken}
+use Rattle.painter.specs.Arrays.{few}
+use Prim.Native.Nat.{_-_}
+use Rattle.painter.specs.Arrays.{source}
+use Rattle.painter.proofs.Law.Turns.{few-most, Storing, storing-start, storing-turn, storing-end}
+use Rattle.painter.proofs.draw.store_defines.Statement.{statement}
+use Rattle.painter.proofs.draw.store_defines.Tie as tie
+use Rattle.painter.proofs.draw.store_defines.Reads as reads
+use Rattle.painter.proofs.draw.store_defines.Lts as lts
+use Rattle.evaluator.proofs.values.store.Reads as store-reads
+use Rattle.painter.proofs.draw.at_most.Reads as at-most-reads
+use Rattle.painter.proofs.draw.row_value.Reads as row-value-reads
+
+abbrev Inv-loop : tie.InvT-loop
+Inv-loop head feature room froms tos roots defines rows₀ floats₀ count i₀ rows floats i =
+    Storing (source head feature room froms tos roots) (few defines) rows₀ floats₀ rows floats i
+
+abbrev μ-loop : tie.MeasureT-loop
+μ-loop head feature room froms tos roots defines rows₀ floats₀ count i₀ rows floats i =
+    count - i
+
+at-most-requires : tie.Need-at-most-requires Inv-loop μ-loop
+at-most-requires c κs = search needs
+
+loop-holds : tie.Need-loop-holds Inv-loop μ-loop
+loop-holds c =
+    storing-start _ _ _ _
+
+row-value-requires : tie.Need-row-value-requires Inv-loop μ-loop
+row-value-requires c κs = search needs
+
+add-store : tie.Need-add-store Inv-loop μ-loop
+add-store c =
+    omega (arith, few-most (c .before .before .before .before .before .before .before .before .before .before .before .args .defines), c .before .before .before .before .before .before .before .at-most .ensures, c .before .before .before .before .before .loop-test .taken)
+
+store-requires : tie.Need-store-requires Inv-loop μ-loop
+store-requires c κs = search needs
+
+add-i : tie.Need-add-i Inv-loop μ-loop
+add-i c =
+    omega (arith, few-most (c .before .before .before .before .before .before .before .before .before .before .before .before .args .defines), c .before .before .before .before .before .before .before .before .at-most .ensures, c .before .before .before .before .before .before .loop-test .taken)
+
+loop-less : tie.Need-loop-less Inv-loop μ-loop
+loop-less c =
+    omega (arith, c .before .before .before .before .before .before .loop-test .taken)
+
+loop-again : tie.Need-loop-again Inv-loop μ-loop
+loop-again c =
+    storing-turn _ _ _ _ _ _ _ (c .before .before .before .before .before .before .before .loop .inv) (omega (arith, c .before .before .before .before .before .before .before .before .at-most .ensures, c .before .before .before .before .before .before .loop-test .taken)) _ (c .before .before .before .row-value .ensures) _ _ (c .store .ensures)
+
+returns : tie.Need-returns Inv-loop μ-loop
+returns c =
+    storing-end _ _ _ _ _ _ _ (c .before .loop .inv) (omega (arith, c .before .before .at-most .ensures, c .loop-test .left))
+
+pub store-defines-spec : {M : Type 1} → statement M
+store-defines-spec =
+    tie.close
+    (tie.spec
+    Inv-loop
+    μ-loop
+    at-most-requires
+    loop-holds
+    row-value-requires
+    add-store
+    store-requires
+    add-i
+    loop-less
+    loop-again
+    returns)
