@@ -15,7 +15,7 @@ pub enum Colouring {
 const MOST_DIGITS: usize = 20;
 
 // No line is longer.
-const LONGEST: usize = 72;
+pub const LONGEST: usize = 72;
 
 // ---- numbers
 

@@ -1,11 +1,13 @@
 -- Lines of the output.
-use mathlib.Core.Path.{_≡_, refl, _∙_}
+use mathlib.Core.Path.{_≡_, refl, _∙_, ap}
+use mathlib.Core.Bool.{Bool, true, false, cond}
 use mathlib.Core.List.{List, [], _∷_, _++_}
 use Prim.Native.Nat.{ℕ, zero, suc, _+_, _-_, _/_, _%_, _≤_, _<_}
 use native.Mathlib.Numerals.{sub-one}
 use native.Mathlib.Omega.{arith}
-use borrow.Author.Tests.{lt-ltb, le-ltb, le-leb, lt-leb}
-use lib.ListN.{length}
+use borrow.Author.Tests.{leb-true, lt-ltb, le-ltb, le-leb, lt-leb}
+use lib.Dec.{leb}
+use lib.ListN.{length, drop, length-append}
 use Rattle.output.specs.Page.{written}
 use Rattle.output.specs.Line.{front, decimalDigit, digitsOf, hexDigit}
 use Rattle.output.proofs.Law.Pages.{at-front, written-none}
@@ -50,3 +52,21 @@ module _ (out line : List ℕ) where
   pub front-left-out : length out < length line → (out, 0) ≡ front out line
   unfolding front
   front-left-out h = rw (lt-leb (length line) (length out) h)
+
+  fits-inside : (t : Bool) → leb (length line) (length out) ≡ t → cond {A = List ℕ × ℕ} t (line ++ drop (length line) out, length line) (out, 0) .1 ≤ length out
+  fits-inside true q = leb-true (length line) (length out) q
+  fits-inside false q = omega arith
+
+  -- the line's length is no more than the output's
+  pub front-within : {out′ : List ℕ} {end : ℕ} → (out′, end) ≡ front out line → end ≤ length out
+  unfolding front
+  front-within e = rw (ap (λ (p : List ℕ × ℕ). p .1) e) (fits-inside (leb (length line) (length out)) refl)
+
+  front-kept : (t : Bool) → cond {A = List ℕ × ℕ} t (line ++ drop (length line) out, length line) (out, 0) .1 ≤ length (cond {A = List ℕ × ℕ} t (line ++ drop (length line) out, length line) (out, 0) .0)
+  front-kept true = rw (length-append line (drop (length line) out)) (omega arith)
+  front-kept false = omega arith
+
+  -- the same of what it is then
+  pub front-inside : {out′ : List ℕ} {end : ℕ} → (out′, end) ≡ front out line → end ≤ length out′
+  unfolding front
+  front-inside e = rw (ap (λ (p : List ℕ × ℕ). p .1) e, ap (λ (p : List ℕ × ℕ). p .0) e) (front-kept (leb (length line) (length out)))

@@ -1,11 +1,13 @@
 -- Bytes written one behind the other.
 use mathlib.Core.Path.{_≡_, refl, sym, _∙_, ap}
+use mathlib.Core.Bool.{Bool, true, false, cond}
 use mathlib.Core.List.{List, [], _∷_, _++_}
 use Prim.Native.Nat.{ℕ, suc, _+_, _≤_, _<_}
 use native.Mathlib.Nat.{zero-add}
 use native.Mathlib.Numerals.{add-one, unary-clauses}
 use native.Mathlib.Omega.{arith}
-use borrow.Author.Tests.{lt-ltb, le-ltb}
+use borrow.Author.Tests.{ltb-true, lt-ltb, le-ltb}
+use lib.Dec.{ltb}
 use lib.ListN.{length, set, getD, take, drop, drop-of-length-le, length-take, length-set, length-append}
 use lib.Seq.{drop-cons, getD-take, slice, sets, sets-eq, take-length, take-append-seam}
 use Rattle.output.specs.Page.{byteOn, written}
@@ -95,3 +97,33 @@ module _ (page bs : List ℕ) {page′ : List ℕ} {end : ℕ} (fits : length bs
 
   pub end-read : end ≡ length (take end page′)
   end-read = rw (read-back) end-is
+
+-- ---- the next byte's place
+
+within : (page : List ℕ) (at : ℕ) (bs : List ℕ) → at ≤ length page → written (page, at) bs .1 ≤ length page
+unfolding written
+within page at [] h = h
+within page at (b ∷ bs) h = go (ltb at (length page)) refl (within page at bs h) (λ k. within (set page at b) (at + 1) bs (rw (length-set page at b) (omega arith)))
+  where
+    go : (t : Bool) → ltb at (length page) ≡ t → written (page, at) bs .1 ≤ length page → (at < length page → written (set page at b, at + 1) bs .1 ≤ length (set page at b)) →
+        written (cond t (set page at b, at + 1) (page, at)) bs .1 ≤ length page
+    go true q stays more = rw (length-set page at b) at (more (ltb-true at (length page) q))
+    go false q stays more = stays
+
+-- is inside the page, or its end
+next-within : (page : List ℕ) (at : ℕ) (bs : List ℕ) {page′ : List ℕ} {end : ℕ} → (page′, end) ≡ written (page, at) bs → at ≤ length page → end ≤ length page
+next-within page at bs e h = rw (ap (λ (p : List ℕ × ℕ). p .1) e) (within page at bs h)
+
+written-length : (page : List ℕ) (at : ℕ) (bs : List ℕ) → length (written (page, at) bs .0) ≡ length page
+unfolding written
+written-length page at [] = refl
+written-length page at (b ∷ bs) = go (ltb at (length page)) (written-length page at bs) (written-length (set page at b) (at + 1) bs)
+  where
+    go : (t : Bool) → length (written (page, at) bs .0) ≡ length page → length (written (set page at b, at + 1) bs .0) ≡ length (set page at b) →
+        length (written (cond t (set page at b, at + 1) (page, at)) bs .0) ≡ length page
+    go true stays more = more ∙ length-set page at b
+    go false stays more = stays
+
+-- the same of the page as it is then
+pub next-inside : (page : List ℕ) (at : ℕ) (bs : List ℕ) {page′ : List ℕ} {end : ℕ} → (page′, end) ≡ written (page, at) bs → at ≤ length page → end ≤ length page′
+next-inside page at bs e h = rw (ap (λ (p : List ℕ × ℕ). p .0) e, written-length page at bs) (next-within page at bs e h)

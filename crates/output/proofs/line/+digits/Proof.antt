@@ -1,3 +1,4 @@
+-- `digits` is its definition, digit by digit: the digits that are left fall.
 use Prim.Native.Nat.{ℕ, _<_}
 use borrow.Fn.Kinds.{In}
 use borrow.Fn.PlainCycle.{Measures, is, falls, and}
@@ -12,8 +13,6 @@ use mathlib.Core.Path.{sym}
 use borrow.Author.Needs.{needs}
 use Rattle.output.proofs.Law.Pages.{and-then}
 use Rattle.output.proofs.Law.Lines.{digits-none, digits-one, digits-more}
-
--- The digits that are left fall.
 
 abbrev μ-digits : Measures 1 digits-kinds.ps ℕ
 μ-digits κs a = a .1 .1 .1 .0

@@ -1,3 +1,4 @@
+-- The line is written on a page, read back and put at the front.
 use borrow.Author.Needs.{needs}
 use Rattle.output.proofs.line.refused_feature.Statement.{statement}
 use Rattle.output.proofs.line.refused_feature.Tie as tie

@@ -1,3 +1,4 @@
+-- The line is written on a page, read back and put at the front.
 use borrow.Author.Needs.{needs}
 use Rattle.output.proofs.line.refused_head.Statement.{statement}
 use Rattle.output.proofs.line.refused_head.Tie as tie
