@@ -40,7 +40,7 @@ use Rattle.painter.specs.Meaning.{propertyValue}
 use Rattle.painter.specs.Paint.{kindsOf, schemaOf}
 use Rattle.painter.specs.Demand.{ReadsAs, Stands, NoDefine, byItself}
 use Rattle.painter.proofs.Sound.{values-conform}
-use Rattle.painter.proofs.Origins.{IsDeclared, AllDeclared, head-refused, given-schema}
+use Rattle.painter.proofs.Origins.{IsDeclared, AllDeclared, head-refused, given-whole}
 
 -- ---- the worst feature
 
@@ -175,6 +175,6 @@ pub refused-exactly : (head : List ℕ) (n : ℕ) (s : Style) (c : Scope) (want 
     ((p : ℕ) × (headOf head ≡ refusedAt 7 n p) × (expressionOf (kindsIn c s) want text ≡ judged.refused 7 p))
     ↔ ((feature : List ℕ) × (vs : List Value) × ReadsAs s feature vs × T (fails want (byItself s feature vs text tree)))
 refused-exactly head n s c want text tree st j t none =
-    let schema = given-schema (st .before) s (st .given) in
-    let e = exactly c want s text tree j t none (schema .0) (schema .1) in
+    let whole = given-whole (st .before) s (st .given) in
+    let e = exactly c want s text tree j t none (whole .few) (whole .declared) in
     ((λ r. e .0 (r .0, r .2)), (λ w. let r = e .1 w in (r .0, head-refused head n s c want text st 7 (r .0) (r .1), r .1)))

@@ -1,4 +1,6 @@
 pub mod Sound
 pub mod Origins
+pub mod Judged
 pub mod Complete
+pub mod Demands
 pub mod Law

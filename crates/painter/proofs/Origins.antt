@@ -94,9 +94,11 @@ abbrev pub AllDeclared : List Declared → Type 0
 AllDeclared [] = Unit {0}
 AllDeclared (d ∷ ds) = IsDeclared (d .property) × AllDeclared ds
 
--- they are within the sizes too: "32 properties"
-abbrev Schema : List Declared → Type 0
-Schema ds = (length ds ≤ 32) × AllDeclared ds
+-- what holds of every style that lines give: its properties are within the sizes and declared, and "`color` and `cond` don't stand together"
+pub record Whole (s : Style) : Type 0 where
+  pub few : length (s .properties) ≤ 32
+  pub declared : AllDeclared (s .properties)
+  pub apart : (length (s .colours) ≡ 0) ⊎ (length (s .conditions) ≡ 0)
 
 declared-more : (ds : List Declared) (d : Declared) → AllDeclared ds → IsDeclared (d .property) → AllDeclared (ds ++ d ∷ [])
 declared-more [] d a h = (h, tt)
@@ -105,11 +107,11 @@ declared-more (x ∷ ds) d a h = (a .0, declared-more ds d (a .1) h)
 -- ---- a line
 
 module _ (s : Style) (line : List ℕ) where
-  -- it is refused by 8, or as one of its expressions is, or what it adds leaves a schema
+  -- it is refused by 8, or as one of its expressions is, or what it adds leaves a style whole
   data Told : Said → Type 0 where
     eight : (p : ℕ) → Told (refused 8 p)
     its : {c : Scope} {want : Wanted} {text : List ℕ} {m p : ℕ} → Asks s line c want text → expressionOf (kindsIn c s) want text ≡ judged.refused m p → Told (refused m p)
-    goes : {x : Entry} → (Schema (s .properties) → Schema (with s x .properties)) → Told (adds x)
+    goes : {x : Entry} → (Whole s → Whole (with s x)) → Told (adds x)
 
   tested : (t : Bool) {said : Said} (p : ℕ) → (t ≡ true → Told said) → Told (cond t said (refused 8 p))
   tested t p f = by-test Told t f (λ _. eight p)
@@ -132,11 +134,19 @@ module _ (s : Style) (line : List ℕ) where
       let room = ltb-true (length (s .properties)) 32 (both (ltb (length (s .properties)) 32) _ ok .0) in
       let d : Declared = record { name = name; property = declared t a n } in
       let short : length (s .properties ++ d ∷ []) ≤ 32 = omega (arith, room, length-append (s .properties) (d ∷ [])) in
-      goes (λ h. (short, declared-more (s .properties) d (h .1) tt))
+      goes (λ h. record { few = short; declared = declared-more (s .properties) d (h .declared) tt; apart = h .apart })
 
   on-type : (f : TypeName) (p : ℕ) (k : Kind → Said) → ((t : Kind) → Told (k t)) → Told (onType f p k)
   on-type type.Unknown p k g = eight p
   on-type (type.Known t) p k g = g t
+
+  no-conditions : admitsTo s word.Color ≡ true → length (s .conditions) ≡ 0
+  unfolding admits
+  no-conditions ok = eqb-true (length (s .conditions)) 0 (both (ltb (length (s .colours)) 1) _ ok .1)
+
+  no-colours : admitsTo s word.Cond ≡ true → length (s .colours) ≡ 0
+  unfolding admits
+  no-colours ok = eqb-true (length (s .colours)) 0 (both (ltb (length (s .conditions)) 16) _ ok .1)
 
   by-line : (l : Line) → lineOf (field line 0) ≡ l → admitsTo s l ≡ true → Told (lineBy l s line)
   unfolding propertyLine defineLine showLine colourLine conditionLine
@@ -144,10 +154,10 @@ module _ (s : Style) (line : List ℕ) where
       on-count 4 (λ n. tested (isNew (map nameOf (s .properties)) (field line 1)) (fieldStart line 1)
       (λ new. on-type (typeOf (field line 2)) (fieldStart line 2) _ (λ t. on-flags (flagsOf (field line 3)) (fieldStart line 3) (field line 1) t ok)))
   by-line word.Define w ok =
-      on-count 3 (λ n. tested (isNew (map defineName (s .defines)) (field line 1)) (fieldStart line 1) (λ new. on-expression _ (define w ok n new) (λ e h. goes (λ x. x))))
-  by-line word.Show w ok = on-count 2 (λ n. on-expression _ (show w ok n) (λ e h. goes (λ x. x)))
-  by-line word.Color w ok = on-count 2 (λ n. on-expression _ (color w ok n) (λ e h. goes (λ x. x)))
-  by-line word.Cond w ok = on-count 3 (λ n. on-expression _ (condition w ok n) (λ t h. on-expression _ (colour w ok n t h) (λ e h. goes (λ x. x))))
+      on-count 3 (λ n. tested (isNew (map defineName (s .defines)) (field line 1)) (fieldStart line 1) (λ new. on-expression _ (define w ok n new) (λ e h. goes (λ x. record { few = x .few; declared = x .declared; apart = x .apart }))))
+  by-line word.Show w ok = on-count 2 (λ n. on-expression _ (show w ok n) (λ e h. goes (λ x. record { few = x .few; declared = x .declared; apart = x .apart })))
+  by-line word.Color w ok = on-count 2 (λ n. on-expression _ (color w ok n) (λ e h. goes (λ x. record { few = x .few; declared = x .declared; apart = inr (no-conditions ok) })))
+  by-line word.Cond w ok = on-count 3 (λ n. on-expression _ (condition w ok n) (λ t h. on-expression _ (colour w ok n t h) (λ e h. goes (λ x. record { few = x .few; declared = x .declared; apart = inl (no-colours ok) }))))
   by-line word.Feat w ok = eight 0
   by-line word.Unknown w ok = eight 0
 
@@ -214,15 +224,14 @@ pub refused-origin : (head : List ℕ) (m n p : ℕ) → headOf head ≡ refused
 unfolding headOf
 refused-origin head m n p h = lines-refused head m n p (lines head) [] empty refl refl h
 
-schema-from : (ls : List (List ℕ)) (k : ℕ) (s : Style) → Schema (s .properties) → (t : Style) → headFrom k s ls ≡ gives t → Schema (t .properties)
-schema-from [] k s a t h = subst (λ (s : Style). Schema (s .properties)) (ap (λ x. styleIn x t) h) a
-schema-from (l ∷ ls) k s a t h = go (lineSaid s l) (line-told s l) (λ x a. schema-from ls (suc k) (with s x) a t) h
+whole-from : (ls : List (List ℕ)) (k : ℕ) (s : Style) → Whole s → (t : Style) → headFrom k s ls ≡ gives t → Whole t
+whole-from [] k s a t h = subst Whole (ap (λ x. styleIn x t) h) a
+whole-from (l ∷ ls) k s a t h = go (lineSaid s l) (line-told s l) (λ x a. whole-from ls (suc k) (with s x) a t) h
   where
-    go : (said : Said) → Told s l said → ((x : Entry) → Schema (with s x .properties) → headFrom (suc k) (with s x) ls ≡ gives t → Schema (t .properties)) →
-        onLine k said (λ x. headFrom (suc k) (with s x) ls) ≡ gives t → Schema (t .properties)
+    go : (said : Said) → Told s l said → ((x : Entry) → Whole (with s x) → headFrom (suc k) (with s x) ls ≡ gives t → Whole t) →
+        onLine k said (λ x. headFrom (suc k) (with s x) ls) ≡ gives t → Whole t
     go (refused m p) told rest h = absurd (false≢true (ap isGiven h))
     go (adds x) (goes g) rest h = rest x (g a) h
 
--- a style has at most 32 properties, each of them declared
-pub given-schema : (ls : List (List ℕ)) (s : Style) → headFrom 1 empty ls ≡ gives s → (length (s .properties) ≤ 32) × AllDeclared (s .properties)
-given-schema ls s h = schema-from ls 1 empty (omega arith, tt) s h
+pub given-whole : (ls : List (List ℕ)) (s : Style) → headFrom 1 empty ls ≡ gives s → Whole s
+given-whole ls s h = whole-from ls 1 empty (record { few = omega arith; declared = tt; apart = inl refl }) s h

@@ -10,10 +10,12 @@ use Rattle.lexer.specs.Bytes.{same}
 use Rattle.lexer.proofs.Law.Runs.{by-test}
 use Rattle.kind.specs.Set.{has}
 use Rattle.kind.specs.declared.kind.Kind.the-variants as kind
+use Rattle.kind.specs.declared.set.Kinds.{Kinds}
+use Rattle.kind.proofs.Law.Choices.{has-set}
 use Rattle.kind.proofs.Law.Sets.{in-single}
 use Rattle.value.specs.Value.{kindOf}
 use Rattle.value.specs.declared.apply.Outcome.{Outcome}
-use Rattle.value.specs.declared.apply.Outcome.the-variants.{Worked}
+use Rattle.value.specs.declared.apply.Outcome.the-variants.{Fault, Worked}
 use Rattle.value.specs.declared.value.Span.{Span}
 use Rattle.value.specs.declared.value.Value.{Value}
 use Rattle.value.specs.declared.value.Value.the-variants.{Undefined, Null, Boolean, Number, String, Vec2, Vec3, Vec4}
@@ -50,6 +52,11 @@ values-conform (d ∷ ds) (v ∷ vs) a x = go (same x (d .name)) (values-conform
         T (has (propertyKinds (cond b (d .property) (propertyIn ds x))) (kindOf (cond b v (propertyValue ds vs x))))
     go true h = a .0
     go false h = h
+
+-- what conforms to any kinds is a value
+pub any-fine : (k : Kinds) (o : Outcome) → Conforms k o → fails wanted.Any o ≡ false
+any-fine k Fault h = absurd h
+any-fine k (Worked v) h = rw (has-set (λ k. true) (kindOf v))
 
 joined : (us ws : List Work) → NoneFails us → NoneFails ws → NoneFails (us ++ ws)
 joined [] ws f g = g

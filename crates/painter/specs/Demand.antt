@@ -56,6 +56,11 @@ module _ (s : Style) (feature : List ℕ) (vs : List Value) where
   abbrev pub workedOut : List Work
   workedOut = map (working wanted.Boolean) (s .shows) ++ (untilTrue (s .conditions) ++ map (working wanted.Vec4) (s .colours))
 
+  -- none of some conditions is true
+  abbrev pub NoneTrue : List Condition → Type 0
+  NoneTrue [] = Unit {0}
+  NoneTrue (c ∷ cs) = (isTrue s feature vs (c .test) ≡ false) × NoneTrue cs
+
   -- "and each define whenever its name is worked out in these": what a name comes to in an expression
   abbrev pub named : Expression → List ℕ → Outcome
   named e x = definedOutcome (stringsOf s feature e) 0 (s .defines) (propertyOutcome s vs) x

@@ -1,0 +1,209 @@
+-- The three demands, about what the calls answer. Of `check` (crate style, src/check.rt) and `paint` (src/paint.rt) the promises say, for every input, that they answer `checkedOf` and `paintedOf`, and that the room and the
+-- buffer are afterwards as `roomAfter` and `outAfter` say. These are theorems about those definitions.
+use mathlib.Core.Path.{_≡_, refl, sym, _∙_, ap}
+use mathlib.Core.Bool.{Bool, true, false, cond, _||_, false≢true}
+use mathlib.Core.List.{List, [], _∷_, map}
+use mathlib.Core.Logic.{_↔_, _⊎_, inl, inr}
+use Prim.Native.Nat.{ℕ, suc, _+_, _<_, _≤_}
+use native.Mathlib.Omega.{arith}
+use borrow.Author.Tests.{le-ltb}
+use lib.Dec.{T, eqb, ltb}
+use lib.ListN.{length, drop}
+use Rattle.lexer.specs.Bytes.{same, ascii}
+use Rattle.lexer.specs.Tokens.{Placed}
+use Rattle.lexer.proofs.Law.Runs.{by-test}
+use Rattle.kind.specs.declared.set.Kinds.{Kinds}
+use Rattle.colour.specs.declared.colour.Colour.{Colour}
+use Rattle.value.specs.declared.value.Value.{Value}
+use Rattle.tree.specs.Tree.{Tree}
+use Rattle.syntax.specs.Judge.{fine, judgedOf}
+use Rattle.syntax.specs.Place.{Scanned, RefusedAt}
+use Rattle.syntax.proofs.Grammar.Judged.{judged-four}
+use Rattle.checker.specs.declared.name.Scope.{Scope}
+use Rattle.checker.specs.declared.name.Scope.the-variants as scope
+use Rattle.checker.specs.declared.check.Wanted.{Wanted}
+use Rattle.checker.specs.declared.check.Wanted.the-variants as wanted
+use Rattle.evaluator.specs.Demand.{Conforms, plain, fails}
+use Rattle.text.specs.Parts.{lines, fields, field}
+use Rattle.style.specs.Style.{Expression, Condition, Style, kindsIn}
+use Rattle.style.specs.Expression.{expressionOf}
+use Rattle.style.specs.Expression as judged
+use Rattle.style.specs.Head.{Headed, refusedAt, gives, headOf, checkedOf, roomSize}
+use Rattle.style.specs.Head as style
+use Rattle.style.specs.declared.check.Checked.{Checked}
+use Rattle.style.specs.declared.check.Checked.the-variants as checked
+use Rattle.style.proofs.Accepted.{accepted-stand}
+use Rattle.style.proofs.Law.Ladder.{passed}
+use Rattle.feature.specs.Feature.{Values, Entered, refused, entered, complete, broken, valuesFrom, fieldsEntered, enteredOf}
+use Rattle.output.specs.Line.{paintedLine}
+use Rattle.output.specs.declared.line.Colouring.{Colouring}
+use Rattle.output.specs.declared.line.Colouring.the-variants.{None, Of}
+use Rattle.painter.specs.Meaning.{isTrue, colourBy, conditionedBy, colouredBy, showOf, colouringOf}
+use Rattle.painter.specs.Paint.{Answer, refusal, accepted, numberOf, kindsOf, schemaOf, featuredBy, featured, headed, isShort, paintedOf}
+use Rattle.painter.specs.Demand.{NoneFails, NoneTrue, workedOut, named, ReadsAs, Stands, NoDefine, byItself}
+use Rattle.painter.proofs.Sound as sound
+use Rattle.painter.proofs.Origins.{Origin, refused-origin, given-whole}
+use Rattle.painter.proofs.Judged.{four-judged, seven-judged}
+use Rattle.painter.proofs.Complete.{reads-conform, refused-exactly}
+
+-- ---- the colour of a style
+
+abbrev isNone : Colouring → Bool
+isNone None = true
+isNone (Of c) = false
+
+module _ (s : Style) (feature : List ℕ) (vs : List Value) where
+  some-colour : (c : Colour) → {A : Type 0} → Of c ≡ None → A
+  some-colour c e = absurd (false≢true (ap isNone e))
+
+  conditioned : (cs : List Condition) → (conditionedBy s feature vs cs ≡ None) ↔ NoneTrue s feature vs cs
+  conditioned [] = ((λ e. tt), (λ n. refl))
+  conditioned (c ∷ cs) = go (isTrue s feature vs (c .test)) (conditioned cs)
+    where
+      go : (b : Bool) → (conditionedBy s feature vs cs ≡ None) ↔ NoneTrue s feature vs cs →
+          (cond b (colourBy s feature vs (c .colour)) (conditionedBy s feature vs cs) ≡ None) ↔ ((b ≡ false) × NoneTrue s feature vs cs)
+      go true rest = ((λ e. some-colour _ e), (λ n. absurd (false≢true (sym (n .0)))))
+      go false rest = ((λ e. (refl, rest .0 e)), (λ n. rest .1 (n .1)))
+
+  coloured : (es : List Expression) (cs : List Condition) → (length es ≡ 0) ⊎ (length cs ≡ 0) → (colouredBy s feature vs es cs ≡ None) ↔ ((0 < length cs) × NoneTrue s feature vs cs)
+  coloured (e ∷ es) [] apart = ((λ n. some-colour _ n), (λ n. absurd (let h : 0 < 0 = n .0 in omega arith)))
+  coloured (e ∷ es) (c ∷ cs) (inl h) = absurd (omega arith)
+  coloured (e ∷ es) (c ∷ cs) (inr h) = absurd (omega arith)
+  coloured [] [] apart = ((λ n. some-colour _ n), (λ n. absurd (let h : 0 < 0 = n .0 in omega arith)))
+  coloured [] (c ∷ cs) apart = ((λ n. (omega arith, conditioned (c ∷ cs) .0 n)), (λ n. conditioned (c ∷ cs) .1 (n .1)))
+
+-- ---- the numbers of a feature's refusals
+
+abbrev Neither : Answer → Type 0
+Neither a = (numberOf a ≡ 1 → ⊥) × (numberOf a ≡ 9 → ⊥)
+
+data OneOrNine : Entered → Type 0 where
+  one : (p : ℕ) → OneOrNine (refused 1 p)
+  nine : (p : ℕ) → OneOrNine (refused 9 p)
+  neither : (vs : Values) → OneOrNine (entered vs)
+
+refused-numbers : (sets : List Kinds) (number : ℕ) (text : List ℕ) → OneOrNine (enteredOf sets number text)
+unfolding enteredOf fieldsEntered
+refused-numbers sets number text =
+    by-test OneOrNine (ltb 4096 (length text)) (λ _. one 4096)
+    (λ _. by-test OneOrNine (ltb 999999 number) (λ _. one 999999) (λ _. go (same (field text 0) (ascii "feat")) (eqb (length (fields text)) (length sets + 1))))
+  where
+    go : (b c : Bool) →
+        OneOrNine (elim b [
+          | false ↦ refused 9 0
+          | true ↦ elim c [ false ↦ refused 9 (length text) | true ↦ entered (valuesFrom (length (field text 0) + 1) sets (drop 1 (fields text))) ]
+        ])
+    go false c = nine 0
+    go true false = nine (length text)
+    go true true = neither (valuesFrom (length (field text 0) + 1) sets (drop 1 (fields text)))
+
+abbrev isComplete : Entered → Bool
+isComplete (refused n p) = false
+isComplete (entered (broken vs p)) = false
+isComplete (entered (complete vs)) = true
+
+-- ---- the order of the table: 10 and the head's size stand before everything else
+
+module _ (slots : ℕ) (enough : roomSize ≤ slots) (head : List ℕ) (small : length head ≤ 32768) where
+  check-head : checkedOf slots head ≡ style.answered (headOf head)
+  unfolding checkedOf
+  check-head = passed _ (le-ltb slots roomSize enough) (passed _ (le-ltb 32768 (length head) small) refl)
+
+  paint-head : (bytes : ℕ) → 32 ≤ bytes → (number : ℕ) (feature : List ℕ) → paintedOf bytes slots head number feature ≡ headed (headOf head) number feature
+  unfolding paintedOf
+  paint-head bytes h number feature =
+      passed _ ((λ i. le-ltb bytes 32 h i || le-ltb slots roomSize enough i)) (passed _ (le-ltb 32768 (length head) small) refl)
+
+  abbrev refusalIn : Checked → Headed
+  refusalIn (checked.Refused r) = refusedAt (r .number) (r .line) (r .place)
+  refusalIn checked.Accepted = refusedAt 0 0 0
+
+  abbrev isAccepted : Checked → Bool
+  isAccepted (checked.Refused r) = false
+  isAccepted checked.Accepted = true
+
+  -- `check` answers a refusal exactly if the head's lines give it, and then `paint` answers it too
+  pub check-refused : (m n p : ℕ) → (checkedOf slots head ≡ style.refusal m n p) ↔ (headOf head ≡ refusedAt m n p)
+  check-refused m n p = ((λ e. go (headOf head) (sym check-head ∙ e)), (λ e. check-head ∙ ap style.answered e))
+    where
+      go : (h : Headed) → style.answered h ≡ style.refusal m n p → h ≡ refusedAt m n p
+      go (refusedAt i j q) e = ap refusalIn e
+      go (gives s) e = absurd (false≢true (sym (ap isAccepted e)))
+
+  pub paint-refused : (m n p : ℕ) → headOf head ≡ refusedAt m n p → (bytes : ℕ) → 32 ≤ bytes → (number : ℕ) (feature : List ℕ) → paintedOf bytes slots head number feature ≡ refusal m n p
+  paint-refused m n p e bytes h number feature = paint-head bytes h number feature ∙ ap (λ (x : Headed). headed x number feature) e
+
+  -- ---- 1: "refused exactly when the table of page 01 says so, by its number with its line and place"
+
+  -- every refusal of a head's line is an 8, or that of an expression which stands there, behind all that the order puts before it
+  pub refused-where : (m n p : ℕ) → checkedOf slots head ≡ style.refusal m n p → (m ≡ 8) ⊎ Origin head m n p
+  refused-where m n p e = refused-origin head m n p (check-refused m n p .0 e)
+
+  -- and of a 4 the place is that of the "first token no right expression can have there, or the end"
+  pub four-where : (n p : ℕ) → checkedOf slots head ≡ style.refusal 4 n p → (o : Origin head 4 n p) × (ts : List Placed) × Scanned (o .text) ts × RefusedAt (o .text) ts p
+  four-where n p e = go (refused-where 4 n p e)
+    where
+      go : (_≡_ {A = ℕ} 4 8) ⊎ Origin head 4 n p → (o : Origin head 4 n p) × (ts : List Placed) × Scanned (o .text) ts × RefusedAt (o .text) ts p
+      go (inl h) = absurd (omega arith)
+      go (inr o) =
+          let (ts, scanned, at) = judged-four (o .text) p .0 (four-judged (kindsIn (o .scope) (o .style)) (o .want) (o .text) p (o .refused)) in
+          (o, ts, scanned, at)
+
+  -- ---- a style that is accepted, and a feature that conforms
+
+  module _ (s : Style) (is : headOf head ≡ gives s) (number : ℕ) (feature : List ℕ) (vs : List Value) (reads : enteredOf (schemaOf s) number feature ≡ entered (complete vs)) where
+    -- ---- 2: "exactly the show and colour that the written meaning gives"
+
+    pub painted : (bytes : ℕ) → 32 ≤ bytes →
+        paintedOf bytes slots head number feature ≡ accepted (showOf s feature vs) (colouringOf s feature vs) (length (paintedLine number (showOf s feature vs) (colouringOf s feature vs)))
+    painted bytes h = paint-head bytes h number feature ∙ ap (λ (x : Headed). headed x number feature) is ∙ ap (featuredBy s number feature) reads
+
+    -- "no colour exactly if it has conditions and none is true"
+    pub no-colour : (colouringOf s feature vs ≡ None) ↔ ((0 < length (s .conditions)) × NoneTrue s feature vs (s .conditions))
+    unfolding headOf
+    no-colour = coloured s feature vs (s .colours) (s .conditions) (given-whole (lines head) s is .apart)
+
+    -- ---- 3, first half: "meets no kind and no count of arguments that an operator, function or pick doesn't take, and ends in no kind its line doesn't take"
+
+    pub nothing-fails : NoneFails (workedOut s feature vs)
+    nothing-fails = sound.none-fails s vs (reads-conform s feature vs (number, reads)) (accepted-stand head s is) feature
+
+    -- nor does a name that is worked out in an expression of the style, and a define is one
+    pub no-name-fails : (e : Expression) (x : List ℕ) → fails wanted.Any (named s feature vs e x) ≡ false
+    no-name-fails e x =
+        sound.any-fine (kindsIn scope.Style s x) (named s feature vs e x) (sound.named-conforms s vs (reads-conform s feature vs (number, reads)) (accepted-stand head s is) feature e x)
+
+  -- ---- 3, second half: "any one expression without conditional, `&&` or `||`, naming no define, in any style"
+
+  -- it passes the checks before: it stands at a line behind all that the order puts before it, and is judged as its tree
+  pub seven-exactly : (n : ℕ) (s : Style) (c : Scope) (want : Wanted) (text : List ℕ) (tree : Tree) → Stands head n s c want text → judgedOf text ≡ fine tree → T (plain tree) → NoDefine c s text tree →
+      ((p : ℕ) × (checkedOf slots head ≡ style.refusal 7 n p) × (expressionOf (kindsIn c s) want text ≡ judged.refused 7 p))
+      ↔ ((feature : List ℕ) × (vs : List Value) × ReadsAs s feature vs × T (fails want (byItself s feature vs text tree)))
+  seven-exactly n s c want text tree stands is-judged is-plain none =
+      let e = refused-exactly head n s c want text tree stands is-judged is-plain none in
+      ((λ r. e .0 (r .0, check-refused 7 n (r .0) .0 (r .1), r .2)), (λ w. let r = e .1 w in (r .0, check-refused 7 n (r .0) .1 (r .1), r .2)))
+
+  -- and whatever is refused with 7 has passed them
+  pub seven-where : (n p : ℕ) → checkedOf slots head ≡ style.refusal 7 n p → (o : Origin head 7 n p) × (tree : Tree) × (judgedOf (o .text) ≡ fine tree)
+  seven-where n p e = go (refused-where 7 n p e)
+    where
+      go : (_≡_ {A = ℕ} 7 8) ⊎ Origin head 7 n p → (o : Origin head 7 n p) × (tree : Tree) × (judgedOf (o .text) ≡ fine tree)
+      go (inl h) = absurd (omega arith)
+      go (inr o) =
+          let (tree, is) = seven-judged (kindsIn (o .scope) (o .style)) (o .want) (o .text) p (o .refused) in
+          (o, tree, is)
+
+  -- ---- "A strip conforms to a schema (`prop` lines, or none) if by this table neither 1 nor 9 refuses it after those `prop` lines alone, with room enough."
+
+  -- where a head gives the properties of a style, and no more, a feature conforms exactly if it reads as some values
+  pub conforms-exactly : (schema s : Style) → headOf head ≡ gives schema → schema .properties ≡ s .properties → (bytes : ℕ) → 32 ≤ bytes → (number : ℕ) (feature : List ℕ) →
+      Neither (paintedOf bytes slots head number feature) ↔ ((vs : List Value) × (enteredOf (schemaOf s) number feature ≡ entered (complete vs)))
+  conforms-exactly schema s is same bytes h number feature =
+      let e : schemaOf schema ≡ schemaOf s = ap (map kindsOf) same in
+      rw (paint-head bytes h number feature, is, ← e) (go (enteredOf (schemaOf schema) number feature) (refused-numbers (schemaOf schema) number feature))
+    where
+      go : (x : Entered) → OneOrNine x → Neither (featuredBy schema number feature x) ↔ ((vs : List Value) × (x ≡ entered (complete vs)))
+      go (refused n p) (one q) = ((λ k. absurd (k .0 refl)), (λ w. absurd (false≢true (ap isComplete (w .1)))))
+      go (refused n p) (nine q) = ((λ k. absurd (k .1 refl)), (λ w. absurd (false≢true (ap isComplete (w .1)))))
+      go (entered (broken vs p)) o = ((λ k. absurd (k .1 refl)), (λ w. absurd (false≢true (ap isComplete (w .1)))))
+      go (entered (complete vs)) o = ((λ k. (vs, refl)), (λ w. ((λ e. omega arith), (λ e. omega arith))))
