@@ -147,17 +147,8 @@ fn condition(
     while k < count {
         let row = CONDITIONS + 2 * k;
         if is_true(row_value(head, feature, room, froms, tos, roots, rows, floats, row)) {
-            return colour(
-                head,
-                feature,
-                room,
-                froms,
-                tos,
-                roots,
-                rows,
-                floats,
-                row + 1,
-            );
+            let next = row + 1;
+            return colour(head, feature, room, froms, tos, roots, rows, floats, next);
         }
         k += 1;
     }

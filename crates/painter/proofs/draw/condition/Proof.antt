@@ -46,8 +46,8 @@ row-value-requires c κs = search needs
 is-true-requires : tie.Need-is-true-requires Inv-loop μ-loop
 is-true-requires c κs = search needs
 
-add-colour : tie.Need-add-colour Inv-loop μ-loop
-add-colour c =
+add-next : tie.Need-add-next Inv-loop μ-loop
+add-next c =
     omega (arith, few-most (c .before .before .before .before .before .before .before .before .before .args .conditions), c .before .before .before .before .before .at-most .ensures, c .before .before .before .loop-test .taken)
 
 colour-requires : tie.Need-colour-requires Inv-loop μ-loop
@@ -85,7 +85,7 @@ condition-spec =
     add-row
     row-value-requires
     is-true-requires
-    add-colour
+    add-next
     colour-requires
     returns
     add-k
