@@ -1,5 +1,5 @@
 -- A line that is read is within the sizes, and gives each property a value of a kind that it may have.
-use mathlib.Core.Path.{_≡_, refl, subst, sym}
+use mathlib.Core.Path.{_≡_, refl, sym, _∙_, ap, subst}
 use mathlib.Core.Bool.{Bool, true, false, cond}
 use mathlib.Core.List.{List, [], _∷_}
 use Prim.Native.Nat.{ℕ, _+_, _≤_}
@@ -14,7 +14,7 @@ use Rattle.value.specs.Value.{kindOf}
 use Rattle.value.specs.declared.value.Value.{Value}
 use Rattle.text.specs.Parts.{fields, field}
 use Rattle.feature.specs.Field.{fieldOf, conformed}
-use Rattle.feature.specs.Feature.{Values, complete, broken, with, onward, valuesFrom, Entered, refused, entered, fieldsEntered, enteredOf, answered, featureOf, AllOf}
+use Rattle.feature.specs.Feature.{Values, complete, broken, with, onward, valuesFrom, Entered, refused, entered, fieldsEntered, enteredOf, answered, valuesOf, featureOf, AllOf}
 use Rattle.feature.specs.declared.field.Field.{Field}
 use Rattle.feature.specs.declared.field.Field.the-variants as read
 use Rattle.feature.specs.declared.feature.Feature.{Feature}
@@ -95,3 +95,9 @@ module _ (sets : List Kinds) (number : ℕ) (text : List ℕ) where
         go (refused n p) r k = absurd r
         go (entered (broken vs p)) r k = absurd r
         go (entered (complete vs)) r k = (vs, refl, k .2)
+
+-- so the values of a line that is read conform
+pub entered-conform : (sets : List Kinds) (number : ℕ) (text : List ℕ) (vs : List Value) → enteredOf sets number text ≡ entered (complete vs) → AllOf sets vs
+entered-conform sets number text vs e =
+    let r = read-gives sets number text (ap answered e) in
+    subst (AllOf sets) (ap valuesOf (sym (r .1) ∙ e)) (r .2)

@@ -1,6 +1,6 @@
 -- Every choice of samples has a line that is read as these values.
 use mathlib.Core.Path.{_≡_, refl, _∙_, ap}
-use mathlib.Core.Bool.{true, false, not}
+use mathlib.Core.Bool.{Bool, true, false, not}
 use mathlib.Core.List.{List, [], _∷_, _++_, map, append-nil}
 use Prim.Native.Nat.{ℕ, zero, suc, _+_, _-_, _*_, _≤_, _<_}
 use native.Mathlib.Omega.{arith}
@@ -23,7 +23,7 @@ use Rattle.text.specs.Parts.{fields}
 use Rattle.text.proofs.Law.Parts.{parted-joined, parted-alone}
 use Rattle.feature.specs.Field.{numeralOf, numbersOf, filledOf, fieldOf, conformed}
 use Rattle.feature.specs.Feature.{entered, complete, with, valuesFrom, fieldsEntered, enteredOf, valuesOf, featureOf}
-use Rattle.feature.specs.Sample.{absent, null, sample, Given, given, sampleText, sampleAt, textOf, chosenAt, kindsOf, written, lineFor, chosenFrom}
+use Rattle.feature.specs.Sample.{absent, null, sample, Given, given, sampleText, sampleAt, textOf, chosenAt, kindsOf, written, lineFor, chosenFrom, isLineByte}
 use Rattle.feature.specs.declared.field.Field.the-variants as read
 use Rattle.feature.specs.declared.feature.Feature.the-variants.{Read}
 
@@ -132,3 +132,32 @@ pub chosen-each : (at : ℕ) (gs : List Given) (i : ℕ) (none : Given) → i < 
 chosen-each at [] i none h = absurd (omega arith)
 chosen-each at (g ∷ gs) zero none h = (at, refl)
 chosen-each at (g ∷ gs) (suc i) none h = chosen-each (at + length (textOf g) + 1) gs i none (omega arith)
+
+-- ---- such a line is a text's: bytes, and none of them LF
+
+all-joined : (p : ℕ → Bool) (a b : List ℕ) → All p a → All p b → All p (a ++ b)
+all-joined p [] b f g = g
+all-joined p (x ∷ a) b f g = (f .0, all-joined p a b (f .1) g)
+
+sample-bytes : (t : Kind) → All isLineByte (sampleText t)
+sample-bytes kind.Undefined = tt
+sample-bytes kind.Null = (tt, (tt, (tt, (tt, tt))))
+sample-bytes kind.Boolean = (tt, (tt, (tt, (tt, tt))))
+sample-bytes kind.Number = (tt, tt)
+sample-bytes kind.String = (tt, tt)
+sample-bytes kind.Vec2 = (tt, (tt, (tt, tt)))
+sample-bytes kind.Vec3 = (tt, (tt, (tt, (tt, (tt, tt)))))
+sample-bytes kind.Vec4 = (tt, (tt, (tt, (tt, (tt, (tt, (tt, tt)))))))
+
+given-bytes : (g : Given) → All isLineByte (textOf g)
+given-bytes (given undeclared c ok) = tt
+given-bytes (given (declared t a n) absent ok) = tt
+given-bytes (given (declared t a n) null ok) = sample-bytes kind.Null
+given-bytes (given (declared t a n) sample ok) = sample-bytes t
+
+written-bytes : (gs : List Given) → All isLineByte (written gs)
+written-bytes [] = tt
+written-bytes (g ∷ gs) = (tt, all-joined isLineByte (textOf g) (written gs) (given-bytes g) (written-bytes gs))
+
+pub sample-line : (gs : List Given) → All isLineByte (lineFor gs)
+sample-line gs = all-joined isLineByte (ascii "feat") (written gs) (tt, (tt, (tt, (tt, tt)))) (written-bytes gs)

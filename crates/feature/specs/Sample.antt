@@ -1,8 +1,8 @@
 -- Lines that conform, one for every choice that the types and flags of a schema allow: page 01, "Refusal numbers" ("A strip conforms to a schema (`prop` lines, or none) if by this table neither 1 nor 9 refuses it").
-use mathlib.Core.Bool.{true, false}
+use mathlib.Core.Bool.{Bool, true, false, not, _&&_}
 use mathlib.Core.List.{List, [], _∷_, _++_}
 use Prim.Native.Nat.{ℕ, _+_}
-use lib.Dec.{T}
+use lib.Dec.{T, eqb, ltb}
 use lib.ListN.{length}
 use Rattle.number.specs.Arithmetic.{nought}
 use Rattle.lexer.specs.Bytes.{ascii}
@@ -81,3 +81,7 @@ lineFor gs = ascii "feat" ++ written gs
 abbrev pub chosenFrom : ℕ → List Given → List Value
 chosenFrom at [] = []
 chosenFrom at (g ∷ gs) = chosenAt at g ∷ chosenFrom (at + length (textOf g) + 1) gs
+
+-- what may stand in a line of a text: a byte that is no LF
+abbrev pub isLineByte : ℕ → Bool
+isLineByte b = ltb b 256 && not (eqb b 10)

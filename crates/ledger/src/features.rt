@@ -19,7 +19,7 @@ const MOST_BYTES: usize = 4096;
 const MOST_BLOCKS: u64 = 0x1_0000_0000_0000;
 
 // How far the lines of a block are done.
-pub(crate) struct Progress {
+struct Progress {
     // Where those begin that are left.
     pub at: usize,
     // The number of the next.

@@ -8,7 +8,7 @@ pub(crate) fn text(bytes: &[u8]) {
     io::write_all(STDOUT_FILENO, bytes);
 }
 
-// Where the next line goes, behind those that wait.
+// Where the next line goes, behind those that wait. If it might not fit there, they are written first.
 pub(crate) fn place(out: &[u8], waiting: usize) -> usize
     requires { ⌜ waiting ≤ length (now out) ⌝ }
     ensures { λ r. ⌜ r ≤ length (now (out .entry)) ⌝ }

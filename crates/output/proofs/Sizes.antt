@@ -65,9 +65,6 @@ pub painted-fits : (number : ℕ) (show : Bool) (c : Colouring) → number ≤ 9
 painted-fits number show c h =
     omega (arith, painted-length number show c, digits-few 5 20 number (omega arith), truth-fits show, colouring-fits c)
 
-pub painted-some : (number : ℕ) (show : Bool) (c : Colouring) → 0 < length (paintedLine number show c)
-painted-some number show c = omega (arith, painted-length number show c)
-
 -- ---- every line fits on a page of 72 bytes
 
 pub painted-page : (number : ℕ) (show : Bool) (c : Colouring) → length (paintedLine number show c) ≤ 72

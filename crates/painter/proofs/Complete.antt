@@ -1,6 +1,6 @@
 -- An expression without conditional, `&&` or `||` that names no define is refused by 7 exactly if some feature that conforms makes it fail by itself. The feature gives each property its worst: nothing if it may be absent, else
 -- null if it may be null, else a sample of its type.
-use mathlib.Core.Path.{_≡_, refl, sym, _∙_, ap, ap₂, subst}
+use mathlib.Core.Path.{_≡_, refl, sym, _∙_, ap, ap₂}
 use mathlib.Core.Bool.{Bool, true, false, cond, true≢false}
 use mathlib.Core.List.{List, [], _∷_, map}
 use mathlib.Core.Logic.{_↔_}
@@ -23,7 +23,7 @@ use Rattle.checker.specs.declared.check.Verdict.{Verdict}
 use Rattle.checker.specs.declared.check.Verdict.the-variants as verdict
 use Rattle.checker.specs.declared.check.Wanted.{Wanted}
 use Rattle.evaluator.specs.Literal.{literalAt}
-use Rattle.evaluator.specs.Demand.{Worst, Variables, plain, isRefused, fails}
+use Rattle.evaluator.specs.Demand.{Worst, Variables, plain, isRefused}
 use Rattle.evaluator.proofs.Complete as evaluator
 use Rattle.evaluator.proofs.Literals.{literal-kind}
 use Rattle.evaluator.proofs.Law.Variables.{each-variable, every-variable}
@@ -31,14 +31,14 @@ use Rattle.style.specs.Style.{Declared, Define, Style, propertyIn, isAmong, def
 use Rattle.style.specs.Expression.{Judgement, byKinds, expressionOf}
 use Rattle.style.specs.Expression as judged
 use Rattle.style.specs.Head.{refusedAt, headOf}
-use Rattle.feature.specs.Feature.{enteredOf, answered, valuesOf, AllOf}
+use Rattle.feature.specs.Feature.{enteredOf, AllOf}
 use Rattle.feature.specs.Sample.{absent, null, sample, Given, given, textOf, chosenAt, lineFor, chosenFrom}
 use Rattle.feature.specs.Sample as sampled
-use Rattle.feature.proofs.Samples.{sample-kind, sample-read}
-use Rattle.feature.proofs.Conforming.{read-gives}
+use Rattle.feature.proofs.Samples.{sample-kind, sample-read, sample-line}
+use Rattle.feature.proofs.Conforming.{entered-conform}
 use Rattle.painter.specs.Meaning.{propertyValue}
-use Rattle.painter.specs.Paint.{kindsOf, schemaOf}
-use Rattle.painter.specs.Demand.{ReadsAs, Stands, NoDefine, byItself}
+use Rattle.painter.specs.Paint.{declaredKinds, schemaOf}
+use Rattle.painter.specs.Demand.{ReadsAs, Reached, NoDefine, SomeLineFails}
 use Rattle.painter.proofs.Sound.{values-conform}
 use Rattle.painter.proofs.Origins.{IsDeclared, AllDeclared, head-refused, given-whole}
 
@@ -67,7 +67,7 @@ abbrev worstOf : (ds : List Declared) → AllDeclared ds → List Given
 worstOf [] a = []
 worstOf (d ∷ ds) a = worstGiven (d .property) (a .0) ∷ worstOf ds (a .1)
 
-worst-kinds : (ds : List Declared) (a : AllDeclared ds) → map sampled.kindsOf (worstOf ds a) ≡ map kindsOf ds
+worst-kinds : (ds : List Declared) (a : AllDeclared ds) → map sampled.kindsOf (worstOf ds a) ≡ map declaredKinds ds
 worst-kinds [] a = refl
 worst-kinds (d ∷ ds) a = ap₂ (λ (k : Kinds) (ks : List Kinds). k ∷ ks) (given-kinds (d .property) (a .0)) (worst-kinds ds (a .1))
 
@@ -97,9 +97,7 @@ worst-read s a few =
 -- ---- a feature that conforms
 
 pub reads-conform : (s : Style) (feature : List ℕ) (vs : List Value) → ReadsAs s feature vs → AllOf (schemaOf s) vs
-reads-conform s feature vs (n, e) =
-    let r = read-gives (schemaOf s) n feature (ap answered e) in
-    subst (AllOf (schemaOf s)) (ap valuesOf (sym (r .1) ∙ e)) (r .2)
+reads-conform s feature vs (n, e) = entered-conform (schemaOf s) n feature vs e
 
 -- ---- names
 
@@ -143,18 +141,20 @@ module _ (c : Scope) (want : Wanted) (s : Style) (text : List ℕ) (tree : Tree)
 
   pub exactly : length (s .properties) ≤ 32 → AllDeclared (s .properties) →
       ((p : ℕ) × (expressionOf (kindsIn c s) want text ≡ judged.refused 7 p))
-      ↔ ((feature : List ℕ) × (vs : List Value) × ReadsAs s feature vs × T (fails want (byItself s feature vs text tree)))
+      ↔ SomeLineFails s want text tree
   exactly few a = (
-    (λ r. (
-      line,
-      vs,
-      worst-read s a few,
-      evaluator.worst-fails (λ p n. nameAt text p) (propertyIn (s .properties)) (textIn text line) (literalAt text) (literal-kind text) look tree is-plain looked want (length text)
-          (propertyValue (s .properties) vs) (every-variable (λ p n. worst-values 5 (s .properties) a (nameAt text p)) tree) (refused .0 r),
-    )),
+    (λ r. record {
+      feature = line;
+      values = vs;
+      is-line = sample-line (worstOf (s .properties) a);
+      reads = worst-read s a few;
+      failing =
+          evaluator.worst-fails (λ p n. nameAt text p) (propertyIn (s .properties)) (textIn text line) (literalAt text) (literal-kind text) look tree is-plain looked want (length text)
+          (propertyValue (s .properties) vs) (every-variable (λ p n. worst-values 5 (s .properties) a (nameAt text p)) tree) (refused .0 r);
+    }),
     (λ w. refused .1
-        (evaluator.exactly (λ p n. nameAt text p) (propertyIn (s .properties)) (textIn text (w .0)) (literalAt text) (literal-kind text) look tree is-plain looked want (length text) .1
-        (propertyValue (s .properties) (w .1), values-conform (s .properties) (w .1) (reads-conform s (w .0) (w .1) (w .2)), w .3))),
+        (evaluator.exactly (λ p n. nameAt text p) (propertyIn (s .properties)) (textIn text (w .feature)) (literalAt text) (literal-kind text) look tree is-plain looked want (length text) .1
+        (propertyValue (s .properties) (w .values), values-conform (s .properties) (w .values) (reads-conform s (w .feature) (w .values) (w .reads)), w .failing))),
   )
     where
       look : ℕ → ℕ → Kinds
@@ -170,11 +170,11 @@ module _ (c : Scope) (want : Wanted) (s : Style) (text : List ℕ) (tree : Tree)
       vs = chosenFrom 5 (worstOf (s .properties) a)
 
 -- A head is refused by 7 for such an expression, at its line, exactly if some feature that conforms makes it fail by itself.
-pub refused-exactly : (head : List ℕ) (n : ℕ) (s : Style) (c : Scope) (want : Wanted) (text : List ℕ) (tree : Tree) → Stands head n s c want text → judgedOf text ≡ fine tree →
+pub refused-exactly : (head : List ℕ) (n : ℕ) (s : Style) (c : Scope) (want : Wanted) (text : List ℕ) (tree : Tree) → Reached head n s c want text → judgedOf text ≡ fine tree →
     T (plain tree) → NoDefine c s text tree →
     ((p : ℕ) × (headOf head ≡ refusedAt 7 n p) × (expressionOf (kindsIn c s) want text ≡ judged.refused 7 p))
-    ↔ ((feature : List ℕ) × (vs : List Value) × ReadsAs s feature vs × T (fails want (byItself s feature vs text tree)))
+    ↔ SomeLineFails s want text tree
 refused-exactly head n s c want text tree st j t none =
-    let whole = given-whole (st .before) s (st .given) in
+    let whole = given-whole (st .stands .before) s (st .stands .given) in
     let e = exactly c want s text tree j t none (whole .few) (whole .declared) in
     ((λ r. e .0 (r .0, r .2)), (λ w. let r = e .1 w in (r .0, head-refused head n s c want text st 7 (r .0) (r .1), r .1)))

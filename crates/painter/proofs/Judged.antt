@@ -39,10 +39,18 @@ module _ (look : List ℕ → Kinds) (want : Wanted) (text : List ℕ) (p : ℕ)
       go (refusal n q) e = λ i. refusal (ap numberIn e i) (ap placeIn e i)
       go (fine t) e = absurd (by-verdict (resultOf want (length text) (kindsOf (λ p n. look (nameAt text p)) t)) t e)
 
-  pub seven-judged : expressionOf look want text ≡ judged.refused 7 p → (t : Tree) × (judgedOf text ≡ fine t)
+  -- the checker's verdict on its tree
+  abbrev pub verdictOf : Tree → checker.Verdict
+  verdictOf t = resultOf want (length text) (kindsOf (λ p n. look (nameAt text p)) t)
+
+  pub seven-judged : expressionOf look want text ≡ judged.refused 7 p → (t : Tree) × (judgedOf text ≡ fine t) × (verdictOf t ≡ verdict.Refused p)
   unfolding expressionOf
   seven-judged e = go (judgedOf text) refl e
     where
-      go : (j : Judged) → judgedOf text ≡ j → bySyntax j look want text ≡ judged.refused 7 p → (t : Tree) × (judgedOf text ≡ fine t)
+      by-verdict : (v : checker.Verdict) (t : Tree) → byKinds v text t ≡ judged.refused 7 p → v ≡ verdict.Refused p
+      by-verdict (verdict.Refused q) t e = ap verdict.Refused (ap placeIn e)
+      by-verdict (verdict.Accepted k) t e = absurd (let n : _≡_ {A = ℕ} 0 7 = ap numberIn e in omega arith)
+
+      go : (j : Judged) → judgedOf text ≡ j → bySyntax j look want text ≡ judged.refused 7 p → (t : Tree) × (judgedOf text ≡ fine t) × (verdictOf t ≡ verdict.Refused p)
       go (refusal n q) h e = absurd (let k : n ≡ 7 = ap numberIn e in omega (arith, judged-below text n q h))
-      go (fine t) h e = (t, h)
+      go (fine t) h e = (t, h, by-verdict (verdictOf t) t e)

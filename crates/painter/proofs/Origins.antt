@@ -1,8 +1,8 @@
 -- Where a head's refusal comes from: a line's own number 8, or an expression that stands there. And what the lines before an expression declare.
 use mathlib.Core.Path.{_≡_, refl, sym, _∙_, ap, ap₂, subst}
-use mathlib.Core.Bool.{Bool, true, false, cond, false≢true, true≢false}
+use mathlib.Core.Bool.{Bool, true, false, cond, _&&_, false≢true, true≢false}
 use mathlib.Core.List.{List, [], _∷_, _++_, map, append-assoc}
-use mathlib.Core.Logic.{_⊎_, inl, inr}
+use mathlib.Core.Logic.{_↔_, _⊎_, inl, inr}
 use Prim.Native.Nat.{ℕ, suc, _+_, _≤_}
 use native.Mathlib.Omega.{arith}
 use borrow.Author.Tests.{eqb-true, eq-eqb, ltb-true}
@@ -21,22 +21,18 @@ use Rattle.text.specs.declared.word.TypeName.{TypeName}
 use Rattle.text.specs.declared.word.TypeName.the-variants as type
 use Rattle.text.specs.declared.word.Flags.{Flags}
 use Rattle.text.specs.declared.word.Flags.the-variants as flags
+use Rattle.style.specs.Style as entry
 use Rattle.style.specs.Style.{Declared, Expression, Style, Entry, empty, with, admits, admitsTo, nameOf, defineName, kindsIn}
 use Rattle.style.specs.Expression.{Judgement, expressionOf}
 use Rattle.style.specs.Expression as judged
 use Rattle.style.specs.Line.{Said, refused, adds, counted, isNew, onExpression, onType, onFlags, propertyLine, defineLine, showLine, colourLine, conditionLine, lineBy, lineSaid}
 use Rattle.style.specs.Head.{Headed, refusedAt, gives, onLine, headFrom, headOf}
 use Rattle.style.proofs.Law.Ladder.{taken, both}
+use Rattle.style.proofs.Law.Lines.{on-refused, on-accepted}
 use Rattle.style.proofs.Law.Loop.{styleIn, isGiven}
-use Rattle.painter.specs.Demand.{Asks, define, show, color, condition, colour, Stands}
+use Rattle.painter.specs.Demand.{Asks, define, show, color, condition, colour, propertiesOf, Refused, Reached}
 
 -- ---- an expression that is refused refuses its line
-
-on-refused : {j : Judgement} (k : Expression → Said) {m p : ℕ} → j ≡ judged.refused m p → onExpression j k ≡ refused m p
-on-refused k h = ap (λ j. onExpression j k) h
-
-on-accepted : {j : Judgement} (k : Expression → Said) (e : Expression) {x : Said} → j ≡ judged.accepted e → k e ≡ x → onExpression j k ≡ x
-on-accepted k e a h = ap (λ j. onExpression j k) a ∙ h
 
 -- a line that may stand there says what its word makes it say
 said-by : (s : Style) (line : List ℕ) (l : Line) {x : Said} → lineOf (field line 0) ≡ l → admitsTo s l ≡ true → lineBy l s line ≡ x → lineSaid s line ≡ x
@@ -56,7 +52,7 @@ asks-refused {s = s} {line = line} (show w ok n) m p h = said-by s line word.Sho
 asks-refused {s = s} {line = line} (color w ok n) m p h = said-by s line word.Color w ok (said-counted line 2 n (on-refused _ h))
 asks-refused {s = s} {line = line} (condition w ok n) m p h = said-by s line word.Cond w ok (said-counted line 3 n (on-refused _ h))
 asks-refused {s = s} {line = line} (colour w ok n test a) m p h =
-    said-by s line word.Cond w ok (said-counted line 3 n (on-accepted _ test a (on-refused _ h)))
+    said-by s line word.Cond w ok (said-counted line 3 n (on-accepted _ a ∙ on-refused _ h))
 
 -- ---- and its head
 
@@ -74,14 +70,19 @@ behind (l ∷ ls) rest k s t g = go (lineSaid s l) (λ x. behind ls rest (suc k)
         let n : suc k + length ls ≡ k + length (l ∷ ls) = omega arith in
         onward x g ∙ ap (λ (k : ℕ). headFrom k t rest) n
 
-pub head-refused : (head : List ℕ) (n : ℕ) (s : Style) (c : Scope) (want : Wanted) (text : List ℕ) → Stands head n s c want text → (m p : ℕ) →
-    expressionOf (kindsIn c s) want text ≡ judged.refused m p → headOf head ≡ refusedAt m n p
+-- a line that is refused refuses it
+refused-by : (head : List ℕ) (m n p : ℕ) → Refused head m n p → headOf head ≡ refusedAt m n p
 unfolding headOf
-head-refused head n s c want text st m p h =
+refused-by head m n p r =
+    let st = r .stands in
     let k : 1 + length (st .before) ≡ n = omega (arith, st .number) in
     ap (headFrom 1 empty) (st .is)
-    ∙ behind (st .before) (st .line ∷ st .after) 1 empty s (st .given)
-    ∙ ap₂ (λ (k : ℕ) said. onLine k said (λ x. headFrom (suc (1 + length (st .before))) (with s x) (st .after))) k (asks-refused (st .asks) m p h)
+    ∙ behind (st .before) (r .line ∷ st .after) 1 empty (r .style) (st .given)
+    ∙ ap₂ (λ (k : ℕ) said. onLine k said (λ x. headFrom (suc (1 + length (st .before))) (with (r .style) x) (st .after))) k (r .said)
+
+pub head-refused : (head : List ℕ) (n : ℕ) (s : Style) (c : Scope) (want : Wanted) (text : List ℕ) → Reached head n s c want text → (m p : ℕ) →
+    expressionOf (kindsIn c s) want text ≡ judged.refused m p → headOf head ≡ refusedAt m n p
+head-refused head n s c want text st m p h = refused-by head m n p (record { style = s; line = st .line; stands = st .stands; said = asks-refused (st .asks) m p h })
 
 -- ---- what is declared
 
@@ -104,6 +105,14 @@ declared-more : (ds : List Declared) (d : Declared) → AllDeclared ds → IsDec
 declared-more [] d a h = (h, tt)
 declared-more (x ∷ ds) d a h = (a .0, declared-more ds d (a .1) h)
 
+-- a property stands only where its word may
+abbrev InOrder : Style → Entry → Type 0
+InOrder s (entry.property d) = admitsTo s word.Prop ≡ true
+InOrder s (entry.define d) = Unit {0}
+InOrder s (entry.show e) = Unit {0}
+InOrder s (entry.colour e) = Unit {0}
+InOrder s (entry.condition c) = Unit {0}
+
 -- ---- a line
 
 module _ (s : Style) (line : List ℕ) where
@@ -111,7 +120,7 @@ module _ (s : Style) (line : List ℕ) where
   data Told : Said → Type 0 where
     eight : (p : ℕ) → Told (refused 8 p)
     its : {c : Scope} {want : Wanted} {text : List ℕ} {m p : ℕ} → Asks s line c want text → expressionOf (kindsIn c s) want text ≡ judged.refused m p → Told (refused m p)
-    goes : {x : Entry} → (Whole s → Whole (with s x)) → Told (adds x)
+    goes : {x : Entry} → (Whole s → Whole (with s x)) → InOrder s x → Told (adds x)
 
   tested : (t : Bool) {said : Said} (p : ℕ) → (t ≡ true → Told said) → Told (cond t said (refused 8 p))
   tested t p f = by-test Told t f (λ _. eight p)
@@ -134,7 +143,7 @@ module _ (s : Style) (line : List ℕ) where
       let room = ltb-true (length (s .properties)) 32 (both (ltb (length (s .properties)) 32) _ ok .0) in
       let d : Declared = record { name = name; property = declared t a n } in
       let short : length (s .properties ++ d ∷ []) ≤ 32 = omega (arith, room, length-append (s .properties) (d ∷ [])) in
-      goes (λ h. record { few = short; declared = declared-more (s .properties) d (h .declared) tt; apart = h .apart })
+      goes (λ h. record { few = short; declared = declared-more (s .properties) d (h .declared) tt; apart = h .apart }) ok
 
   on-type : (f : TypeName) (p : ℕ) (k : Kind → Said) → ((t : Kind) → Told (k t)) → Told (onType f p k)
   on-type type.Unknown p k g = eight p
@@ -154,10 +163,10 @@ module _ (s : Style) (line : List ℕ) where
       on-count 4 (λ n. tested (isNew (map nameOf (s .properties)) (field line 1)) (fieldStart line 1)
       (λ new. on-type (typeOf (field line 2)) (fieldStart line 2) _ (λ t. on-flags (flagsOf (field line 3)) (fieldStart line 3) (field line 1) t ok)))
   by-line word.Define w ok =
-      on-count 3 (λ n. tested (isNew (map defineName (s .defines)) (field line 1)) (fieldStart line 1) (λ new. on-expression _ (define w ok n new) (λ e h. goes (λ x. record { few = x .few; declared = x .declared; apart = x .apart }))))
-  by-line word.Show w ok = on-count 2 (λ n. on-expression _ (show w ok n) (λ e h. goes (λ x. record { few = x .few; declared = x .declared; apart = x .apart })))
-  by-line word.Color w ok = on-count 2 (λ n. on-expression _ (color w ok n) (λ e h. goes (λ x. record { few = x .few; declared = x .declared; apart = inr (no-conditions ok) })))
-  by-line word.Cond w ok = on-count 3 (λ n. on-expression _ (condition w ok n) (λ t h. on-expression _ (colour w ok n t h) (λ e h. goes (λ x. record { few = x .few; declared = x .declared; apart = inl (no-colours ok) }))))
+      on-count 3 (λ n. tested (isNew (map defineName (s .defines)) (field line 1)) (fieldStart line 1) (λ new. on-expression _ (define w ok n new) (λ e h. goes (λ x. record { few = x .few; declared = x .declared; apart = x .apart }) tt)))
+  by-line word.Show w ok = on-count 2 (λ n. on-expression _ (show w ok n) (λ e h. goes (λ x. record { few = x .few; declared = x .declared; apart = x .apart }) tt))
+  by-line word.Color w ok = on-count 2 (λ n. on-expression _ (color w ok n) (λ e h. goes (λ x. record { few = x .few; declared = x .declared; apart = inr (no-conditions ok) }) tt))
+  by-line word.Cond w ok = on-count 3 (λ n. on-expression _ (condition w ok n) (λ t h. on-expression _ (colour w ok n t h) (λ e h. goes (λ x. record { few = x .few; declared = x .declared; apart = inl (no-colours ok) }) tt)))
   by-line word.Feat w ok = eight 0
   by-line word.Unknown w ok = eight 0
 
@@ -167,14 +176,26 @@ module _ (s : Style) (line : List ℕ) where
 
 -- ---- the head
 
--- an expression that stands at a line of a head, and is refused
+-- an expression that is reached at a line of a head, and is refused
 pub record Origin (head : List ℕ) (m n p : ℕ) : Type 0 where
   pub style : Style
   pub scope : Scope
   pub want : Wanted
   pub text : List ℕ
-  pub stands : Stands head n style scope want text
+  pub reached : Reached head n style scope want text
   pub refused : expressionOf (kindsIn scope style) want text ≡ judged.refused m p
+
+abbrev numberSaid : Said → ℕ
+numberSaid (refused m p) = m
+numberSaid (adds x) = 0
+
+abbrev placeSaid : Said → ℕ
+placeSaid (refused m p) = p
+placeSaid (adds x) = 0
+
+abbrev isAdded : Said → Bool
+isAdded (refused m p) = false
+isAdded (adds x) = true
 
 abbrev numberAt : Headed → ℕ
 numberAt (refusedAt m n p) = m
@@ -190,39 +211,49 @@ placeAt (gives s) = 0
 
 -- the last lines of a head, behind some that give a style
 lines-refused : (head : List ℕ) (m n p : ℕ) (ls before : List (List ℕ)) (s : Style) → lines head ≡ before ++ ls → headFrom 1 empty before ≡ gives s →
-    headFrom (1 + length before) s ls ≡ refusedAt m n p → (m ≡ 8) ⊎ Origin head m n p
+    headFrom (1 + length before) s ls ≡ refusedAt m n p → Refused head m n p
 lines-refused head m n p [] before s is g h = absurd (true≢false (ap isGiven h))
 lines-refused head m n p (l ∷ ls) before s is g h =
-    go (lineSaid s l) refl (line-told s l)
+    go (lineSaid s l) refl
     (λ x e h. let k : 1 + length (before ++ l ∷ []) ≡ suc (1 + length before) = omega (arith, length-append before (l ∷ [])) in
     lines-refused head m n p ls (before ++ l ∷ []) (with s x) (is ∙ sym (append-assoc before (l ∷ []) ls))
     (behind before (l ∷ []) 1 empty s g ∙ ap (λ said. onLine (1 + length before) said (λ x. gives (with s x))) e) (ap (λ (k : ℕ). headFrom k (with s x) ls) k ∙ h))
     h
   where
-    stands : {c : Scope} {want : Wanted} {text : List ℕ} (i q : ℕ) → Asks s l c want text → expressionOf (kindsIn c s) want text ≡ judged.refused i q →
-        refusedAt i (1 + length before) q ≡ refusedAt m n p → Origin head m n p
-    stands {c} {want} {text} i q a r h =
+    go : (said : Said) → lineSaid s l ≡ said →
+        ((x : Entry) → lineSaid s l ≡ adds x → headFrom (suc (1 + length before)) (with s x) ls ≡ refusedAt m n p → Refused head m n p) →
+        onLine (1 + length before) said (λ x. headFrom (suc (1 + length before)) (with s x) ls) ≡ refusedAt m n p → Refused head m n p
+    go (refused i q) e onward h =
         let at : 1 + length before ≡ n = ap lineAt h in
         record {
           style = s;
+          line = l;
+          stands = record { before = before; after = ls; is = is; number = omega (arith, at); given = g };
+          said = e ∙ (λ j. refused (numberAt (h j)) (placeAt (h j)));
+        }
+    go (adds x) e onward h = onward x e h
+
+-- a head is refused exactly as one of its lines is, behind lines that give a style
+pub refused-line : (head : List ℕ) (m n p : ℕ) → (headOf head ≡ refusedAt m n p) ↔ Refused head m n p
+unfolding headOf
+refused-line head m n p = ((λ h. lines-refused head m n p (lines head) [] empty refl refl h), refused-by head m n p)
+
+-- and a line by an 8, or as an expression that is reached in it
+pub refused-origin : (head : List ℕ) (m n p : ℕ) → Refused head m n p → (m ≡ 8) ⊎ Origin head m n p
+refused-origin head m n p r = go (lineSaid (r .style) (r .line)) (line-told (r .style) (r .line)) (r .said)
+  where
+    go : (said : Said) → Told (r .style) (r .line) said → said ≡ refused m p → (m ≡ 8) ⊎ Origin head m n p
+    go (refused i q) (eight r′) e = inl (sym (ap numberSaid e))
+    go (refused i q) (its {c} {want} {text} a h) e =
+        inr (record {
+          style = r .style;
           scope = c;
           want = want;
           text = text;
-          stands = record { before = before; line = l; after = ls; is = is; number = omega (arith, at); given = g; asks = a };
-          refused = r ∙ (λ j. judged.refused (numberAt (h j)) (placeAt (h j)));
-        }
-
-    go : (said : Said) → lineSaid s l ≡ said → Told s l said →
-        ((x : Entry) → lineSaid s l ≡ adds x → headFrom (suc (1 + length before)) (with s x) ls ≡ refusedAt m n p → (m ≡ 8) ⊎ Origin head m n p) →
-        onLine (1 + length before) said (λ x. headFrom (suc (1 + length before)) (with s x) ls) ≡ refusedAt m n p → (m ≡ 8) ⊎ Origin head m n p
-    go (refused i q) e (eight r) onward h = inl (sym (ap numberAt h))
-    go (refused i q) e (its a r) onward h = inr (stands i q a r h)
-    go (adds x) e (goes f) onward h = onward x e h
-
--- every refusal of a head's lines is an 8, or that of an expression that stands there
-pub refused-origin : (head : List ℕ) (m n p : ℕ) → headOf head ≡ refusedAt m n p → (m ≡ 8) ⊎ Origin head m n p
-unfolding headOf
-refused-origin head m n p h = lines-refused head m n p (lines head) [] empty refl refl h
+          reached = record { line = r .line; stands = r .stands; asks = a };
+          refused = h ∙ (λ j. judged.refused (numberSaid (e j)) (placeSaid (e j)));
+        })
+    go (adds x) told e = absurd (true≢false (ap isAdded e))
 
 whole-from : (ls : List (List ℕ)) (k : ℕ) (s : Style) → Whole s → (t : Style) → headFrom k s ls ≡ gives t → Whole t
 whole-from [] k s a t h = subst Whole (ap (λ x. styleIn x t) h) a
@@ -231,7 +262,79 @@ whole-from (l ∷ ls) k s a t h = go (lineSaid s l) (line-told s l) (λ x a. who
     go : (said : Said) → Told s l said → ((x : Entry) → Whole (with s x) → headFrom (suc k) (with s x) ls ≡ gives t → Whole t) →
         onLine k said (λ x. headFrom (suc k) (with s x) ls) ≡ gives t → Whole t
     go (refused m p) told rest h = absurd (false≢true (ap isGiven h))
-    go (adds x) (goes g) rest h = rest x (g a) h
+    go (adds x) (goes g o) rest h = rest x (g a) h
 
 pub given-whole : (ls : List (List ℕ)) (s : Style) → headFrom 1 empty ls ≡ gives s → Whole s
 given-whole ls s h = whole-from ls 1 empty (record { few = omega arith; declared = tt; apart = inl refl }) s h
+
+-- ---- the properties come first
+
+-- behind any other entry no property may stand
+later : (a b c d e : ℕ) → (b ≡ 0 → c ≡ 0 → d ≡ 0 → e ≡ 0 → ⊥) → admits word.Prop a b c d e ≡ false
+unfolding admits
+later a b c d e h = go (ltb a 32) (eqb b 0) refl (eqb c 0) refl (eqb d 0) refl (eqb e 0) refl
+  where
+    go : (t u : Bool) → eqb b 0 ≡ u → (v : Bool) → eqb c 0 ≡ v → (w : Bool) → eqb d 0 ≡ w → (x : Bool) → eqb e 0 ≡ x → t && (u && (v && (w && x))) ≡ false
+    go false u p v q w r x k = refl
+    go true false p v q w r x k = refl
+    go true true p false q w r x k = refl
+    go true true p true q false r x k = refl
+    go true true p true q true r false k = refl
+    go true true p true q true r true k = absurd (h (eqb-true b 0 p) (eqb-true c 0 q) (eqb-true d 0 r) (eqb-true e 0 k))
+
+abbrev Shut : Style → Type 0
+Shut s = admitsTo s word.Prop ≡ false
+
+more : {A : Type 0} (xs : List A) (x : A) → length (xs ++ x ∷ []) ≡ 0 → ⊥
+more xs x h = omega (arith, length-append xs (x ∷ []))
+
+-- once none may stand, the properties stay
+stay : (ls : List (List ℕ)) (k : ℕ) (s : Style) → Shut s → (t : Style) → headFrom k s ls ≡ gives t → t .properties ≡ s .properties
+stay [] k s c t h = ap (λ x. styleIn x t .properties) (sym h)
+stay (l ∷ ls) k s c t h = go (lineSaid s l) (line-told s l) (λ x c. stay ls (suc k) (with s x) c t) h
+  where
+    go : (said : Said) → Told s l said → ((x : Entry) → Shut (with s x) → headFrom (suc k) (with s x) ls ≡ gives t → t .properties ≡ with s x .properties) →
+        onLine k said (λ x. headFrom (suc k) (with s x) ls) ≡ gives t → t .properties ≡ s .properties
+    go (refused m p) told rest h = absurd (false≢true (ap isGiven h))
+    go (adds (entry.property d)) (goes g o) rest h = absurd (false≢true (sym c ∙ o))
+    go (adds (entry.define d)) told rest h = rest (entry.define d) (later _ _ _ _ _ (λ a b c e. more (s .defines) d a)) h
+    go (adds (entry.show e)) told rest h = rest (entry.show e) (later _ _ _ _ _ (λ a b c d. more (s .shows) e b)) h
+    go (adds (entry.colour e)) told rest h = rest (entry.colour e) (later _ _ _ _ _ (λ a b c d. more (s .colours) e c)) h
+    go (adds (entry.condition x)) told rest h = rest (entry.condition x) (later _ _ _ _ _ (λ a b c d. more (s .conditions) x d)) h
+
+-- some first lines of a head give its properties and no more
+pub record Front (k : ℕ) (s : Style) (ls : List (List ℕ)) (t : Style) : Type 0 where
+  pub front : List (List ℕ)
+  pub back : List (List ℕ)
+  pub is : ls ≡ front ++ back
+  pub given : headFrom k s front ≡ gives (propertiesOf t)
+
+front-from : (ls : List (List ℕ)) (k : ℕ) (s : Style) → s ≡ propertiesOf s → (t : Style) → headFrom k s ls ≡ gives t → Front k s ls t
+front-from [] k s a t h =
+    let e : s ≡ t = ap (λ x. styleIn x t) h in
+    record { front = []; back = []; is = refl; given = ap gives (a ∙ ap propertiesOf e) }
+front-from (l ∷ ls) k s a t h = go (lineSaid s l) refl (λ x a. front-from ls (suc k) (with s x) a t) h
+  where
+    -- all lines behind one that adds something else
+    none : (x : Entry) → Shut (with s x) → with s x .properties ≡ s .properties → headFrom (suc k) (with s x) ls ≡ gives t → Front k s (l ∷ ls) t
+    none x c same h =
+        record { front = []; back = l ∷ ls; is = refl; given = ap gives (a ∙ ap (λ ds. record { properties = ds; defines = []; shows = []; colours = []; conditions = [] }) (sym (stay ls (suc k) (with s x) c t h ∙ same))) }
+
+    go : (said : Said) → lineSaid s l ≡ said → ((x : Entry) → with s x ≡ propertiesOf (with s x) → headFrom (suc k) (with s x) ls ≡ gives t → Front (suc k) (with s x) ls t) →
+        onLine k said (λ x. headFrom (suc k) (with s x) ls) ≡ gives t → Front k s (l ∷ ls) t
+    go (refused m p) e rest h = absurd (false≢true (ap isGiven h))
+    go (adds (entry.property d)) e rest h =
+        let f = rest (entry.property d) (ap (λ (s : Style). with s (entry.property d)) a) h in
+        record {
+          front = l ∷ f .front;
+          back = f .back;
+          is = ap (λ ls. l ∷ ls) (f .is);
+          given = ap (λ said. onLine k said (λ x. headFrom (suc k) (with s x) (f .front))) e ∙ f .given;
+        }
+    go (adds (entry.define d)) e rest h = none (entry.define d) (later _ _ _ _ _ (λ a b c e. more (s .defines) d a)) refl h
+    go (adds (entry.show x)) e rest h = none (entry.show x) (later _ _ _ _ _ (λ a b c d. more (s .shows) x b)) refl h
+    go (adds (entry.colour x)) e rest h = none (entry.colour x) (later _ _ _ _ _ (λ a b c d. more (s .colours) x c)) refl h
+    go (adds (entry.condition x)) e rest h = none (entry.condition x) (later _ _ _ _ _ (λ a b c d. more (s .conditions) x d)) refl h
+
+pub properties-first : (ls : List (List ℕ)) (s : Style) → headFrom 1 empty ls ≡ gives s → Front 1 empty ls s
+properties-first ls s h = front-from ls 1 empty refl s h

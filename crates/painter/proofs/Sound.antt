@@ -36,13 +36,13 @@ use Rattle.style.specs.Tables.{Each}
 use Rattle.style.specs.Accepted.{Stands, AllStand}
 use Rattle.feature.specs.Feature.{AllOf}
 use Rattle.painter.specs.Meaning.{propertyValue, propertyOutcome, expressionAt, definedOutcome, definesText, stringsOf, outcomeOf, isTrue}
-use Rattle.painter.specs.Paint.{kindsOf, schemaOf}
+use Rattle.painter.specs.Paint.{declaredKinds, schemaOf}
 use Rattle.painter.specs.Demand.{Work, NoneFails, working, untilTrue, workedOut, named}
 
 -- ---- names
 
 -- a property's value conforms to its kinds, and an undeclared name is Undefined
-pub values-conform : (ds : List Declared) (vs : List Value) → AllOf (map kindsOf ds) vs → (x : List ℕ) → T (has (propertyKinds (propertyIn ds x)) (kindOf (propertyValue ds vs x)))
+pub values-conform : (ds : List Declared) (vs : List Value) → AllOf (map declaredKinds ds) vs → (x : List ℕ) → T (has (propertyKinds (propertyIn ds x)) (kindOf (propertyValue ds vs x)))
 values-conform [] [] a x = in-single kind.Undefined
 values-conform [] (v ∷ vs) a x = absurd a
 values-conform (d ∷ ds) [] a x = absurd a

@@ -9,6 +9,7 @@ use lib.Seq.{slice}
 use Rattle.number.specs.Arithmetic.{nought}
 use Rattle.colour.specs.Colour.{clampedOf}
 use Rattle.value.specs.Value.{truth, colourIn}
+use Rattle.value.specs.Meaning.{white}
 use Rattle.value.specs.declared.value.Value.{Value}
 use Rattle.value.specs.declared.value.Value.the-variants.{Undefined}
 use Rattle.evaluator.specs.Values.{storedRows, storedFloats}
@@ -20,7 +21,6 @@ use Rattle.feature.specs.Feature.{setsOf, Entered, refused, entered, complete, 
 use Rattle.output.specs.Line.{front, paintedLine}
 use Rattle.output.specs.declared.line.Colouring.{Colouring}
 use Rattle.output.specs.declared.line.Colouring.the-variants.{None, Of}
-use Rattle.painter.specs.Meaning.{white}
 use Rattle.painter.specs.Paint.{Answer, refusal, accepted}
 
 -- the head, the feature's line, the room, and by their rows where expressions begin and end in the head and the places of their roots

@@ -2,13 +2,14 @@
 use mathlib.Core.Path.{_≡_}
 use mathlib.Core.Bool.{true, false, cond}
 use mathlib.Core.List.{List, [], _∷_, _++_, map}
-use Prim.Native.Nat.{ℕ, suc, _≤_}
+use Prim.Native.Nat.{ℕ, suc}
+use lib.Dec.{T}
 use lib.ListN.{length}
+use Rattle.lexer.specs.Spelling.{All}
 use Rattle.value.specs.Value.{textIn}
 use Rattle.value.specs.declared.apply.Outcome.{Outcome}
 use Rattle.value.specs.declared.value.Value.{Value}
 use Rattle.tree.specs.Tree.{Tree}
-use Rattle.syntax.specs.Judge.{fine, judgedOf}
 use Rattle.checker.specs.Name.{nameAt}
 use Rattle.checker.specs.declared.name.Scope.{Scope}
 use Rattle.checker.specs.declared.name.Scope.the-variants as scope
@@ -19,15 +20,14 @@ use Rattle.evaluator.specs.Eval.{evalOf}
 use Rattle.evaluator.specs.Demand.{Variables, fails}
 use Rattle.text.specs.Parts.{lines, fields, field}
 use Rattle.text.specs.Word.{lineOf}
-use Rattle.text.specs.declared.word.Line.{Line}
 use Rattle.text.specs.declared.word.Line.the-variants as word
 use Rattle.style.specs.Style.{Expression, Condition, Style, empty, admitsTo, isAmong, defineName, kindsIn}
 use Rattle.style.specs.Expression.{expressionOf}
 use Rattle.style.specs.Expression as judged
-use Rattle.style.specs.Line.{isNew}
+use Rattle.style.specs.Line.{isNew, refused, lineSaid}
 use Rattle.style.specs.Head.{gives, headFrom}
-use Rattle.feature.specs.Feature.{entered, complete, enteredOf, featureOf}
-use Rattle.feature.specs.declared.feature.Feature.the-variants.{Read}
+use Rattle.feature.specs.Feature.{entered, complete, enteredOf}
+use Rattle.feature.specs.Sample.{isLineByte}
 use Rattle.painter.specs.Meaning.{propertyOutcome, definedOutcome, stringsOf, outcomeOf, isTrue}
 use Rattle.painter.specs.Paint.{schemaOf}
 
@@ -67,9 +67,17 @@ module _ (s : Style) (feature : List ℕ) (vs : List Value) where
 
 -- ---- features that conform
 
+-- it is a line of a text
+abbrev pub IsLine : List ℕ → Type 0
+IsLine feature = All isLineByte feature
+
 -- the line is read as these values under the schema of a style: "neither 1 nor 9 refuses it"
 abbrev pub ReadsAs : Style → List ℕ → List Value → Type 0
 ReadsAs s feature vs = (number : ℕ) × (enteredOf (schemaOf s) number feature ≡ entered (complete vs))
+
+-- what the `prop` lines of a style give alone
+abbrev pub propertiesOf : Style → Style
+propertiesOf s = record { properties = s .properties; defines = []; shows = []; colours = []; conditions = [] }
 
 -- ---- an expression at a line of a head
 
@@ -83,17 +91,28 @@ pub data Asks (s : Style) (line : List ℕ) : Scope → Wanted → List ℕ → 
   colour : lineOf (field line 0) ≡ word.Cond → admitsTo s word.Cond ≡ true → length (fields line) ≡ 3 → (test : Expression) →
       expressionOf (kindsIn scope.Style s) wanted.Boolean (field line 1) ≡ judged.accepted test → Asks s line scope.Style wanted.Vec4 (field line 2)
 
--- The text stands at a line of a head as one of its expressions, and "the checks before are all that the order puts before this expression's" numbers 1 to 7.
-pub record Stands (head : List ℕ) (n : ℕ) (s : Style) (c : Scope) (want : Wanted) (text : List ℕ) : Type 0 where
+-- A line of a head, by its number, behind others that give a style.
+pub record LineAt (head : List ℕ) (n : ℕ) (s : Style) (line : List ℕ) : Type 0 where
   pub before : List (List ℕ)
-  pub line : List ℕ
   pub after : List (List ℕ)
   pub is : lines head ≡ before ++ line ∷ after
   pub number : n ≡ suc (length before)
   pub given : headFrom 1 empty before ≡ gives s
+
+-- a line that is refused
+pub record Refused (head : List ℕ) (m n p : ℕ) : Type 0 where
+  pub style : Style
+  pub line : List ℕ
+  pub stands : LineAt head n style line
+  pub said : lineSaid style line ≡ refused m p
+
+-- An expression of a line: all that "the order puts before" its numbers 1 to 7 has passed. That it is judged as a tree says that so have its 1 to 6.
+pub record Reached (head : List ℕ) (n : ℕ) (s : Style) (c : Scope) (want : Wanted) (text : List ℕ) : Type 0 where
+  pub line : List ℕ
+  pub stands : LineAt head n s line
   pub asks : Asks s line c want text
 
--- "naming no define"; "inside a define every name is a property"
+-- it names no define: "inside a define every name is a property"
 abbrev pub NoDefine : Scope → Style → List ℕ → Tree → Type 0
 NoDefine scope.Define s text e = Unit {0}
 NoDefine scope.Style s text e = Variables (λ p n. isAmong (map defineName (s .defines)) (nameAt text p) ≡ false) e
@@ -101,3 +120,11 @@ NoDefine scope.Style s text e = Variables (λ p n. isAmong (map defineName (s .d
 -- "By itself means from the strip's values, whether or not the style comes to it"
 abbrev pub byItself : Style → List ℕ → List Value → List ℕ → Tree → Outcome
 byItself s feature vs text e = evalOf (record { text = textIn text feature; literals = literalAt text; variables = λ p n. propertyOutcome s vs (nameAt text p) }) e
+
+-- some line that conforms makes it fail
+pub record SomeLineFails (s : Style) (want : Wanted) (text : List ℕ) (e : Tree) : Type 0 where
+  pub feature : List ℕ
+  pub values : List Value
+  pub is-line : IsLine feature
+  pub reads : ReadsAs s feature values
+  pub failing : T (fails want (byItself s feature values text e))

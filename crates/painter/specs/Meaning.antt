@@ -1,13 +1,13 @@
 -- What a style gives a feature: page 01, "What the painter reads", "Kinds and meaning" and "What each answer owes" ("What is worked out for a strip is `show`, the conditions in turn until one is true, then its colour, or
 -- `color`, and each define whenever its name is worked out in these").
-use mathlib.Core.Bool.{Bool, true, false, cond}
+use mathlib.Core.Bool.{Bool, true, cond}
 use mathlib.Core.List.{List, [], _∷_, _++_}
 use Prim.Native.Nat.{ℕ, _+_}
 use lib.ListN.{length}
 use Rattle.lexer.specs.Bytes.{same}
-use Rattle.colour.specs.Colour.{clampedOf, ofBytes}
-use Rattle.colour.specs.declared.colour.Colour.{Colour}
+use Rattle.colour.specs.Colour.{clampedOf}
 use Rattle.value.specs.Value.{textIn, truth, colourIn}
+use Rattle.value.specs.Meaning.{white}
 use Rattle.value.specs.declared.apply.Outcome.{Outcome}
 use Rattle.value.specs.declared.apply.Outcome.the-variants.{Worked}
 use Rattle.value.specs.declared.value.Span.{Span}
@@ -75,9 +75,6 @@ shownBy s feature vs (e ∷ es) = isTrue s feature vs e
 abbrev pub conditionedBy : Style → List ℕ → List Value → List Condition → Colouring
 conditionedBy s feature vs [] = None
 conditionedBy s feature vs (c ∷ cs) = cond (isTrue s feature vs (c .test)) (colourBy s feature vs (c .colour)) (conditionedBy s feature vs cs)
-
-abbrev pub white : Colour
-white = ofBytes 255 255 255
 
 -- "without `color` and `cond` it is white"
 abbrev pub colouredBy : Style → List ℕ → List Value → List Expression → List Condition → Colouring

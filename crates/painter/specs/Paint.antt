@@ -8,8 +8,6 @@ use Rattle.kind.specs.declared.set.Kinds.{Kinds}
 use Rattle.checker.specs.Property.{propertyKinds}
 use Rattle.style.specs.Style.{Declared, Style}
 use Rattle.style.specs.Head.{Headed, refusedAt, gives, headOf, roomSize}
-use Rattle.style.specs.declared.check.Checked.{Checked}
-use Rattle.style.specs.declared.check.Checked.the-variants as checked
 use Rattle.feature.specs.Feature.{Entered, refused, entered, complete, broken, enteredOf}
 use Rattle.output.specs.Line.{paintedLine}
 use Rattle.output.specs.declared.line.Colouring.{Colouring}
@@ -33,19 +31,14 @@ abbrev pub numberOf : Answer → ℕ
 numberOf (refusal number line place) = number
 numberOf (accepted show colouring bytes) = 0
 
--- of a check
-abbrev pub checkedNumber : Checked → ℕ
-checkedNumber (checked.Refused r) = r .number
-checkedNumber checked.Accepted = 0
-
 -- ---- a feature
 
 -- the kinds that each property may have, in their order
-abbrev pub kindsOf : Declared → Kinds
-kindsOf d = propertyKinds (d .property)
+abbrev pub declaredKinds : Declared → Kinds
+declaredKinds d = propertyKinds (d .property)
 
 abbrev pub schemaOf : Style → List Kinds
-schemaOf s = map kindsOf (s .properties)
+schemaOf s = map declaredKinds (s .properties)
 
 -- "then the strip: its size, the number of strips, 9", in which order they are entered; the line is "for a strip, the number its caller gives it"
 abbrev pub featuredBy : Style → ℕ → List ℕ → Entered → Answer

@@ -1,7 +1,7 @@
 // A style, as a head was compiled, applied to a feature.
 ghost use mathlib.Core.Path.{_≡_};
 ghost use Rattle.painter.specs.Paint.{answerOf};
-ghost use Rattle.painter.specs.Arrays.{tableSource, drawn, appliedOf};
+ghost use Rattle.painter.specs.Arrays.{tableSource, drawnBy, drawn, appliedOf};
 use crate::draw;
 use crate::paint::Painted;
 use feature::feature::Feature;
@@ -10,7 +10,45 @@ use output::line;
 use style::check::Refusal;
 use style::tables::Tables;
 
-// For values in arrays. The line is written at the front of the buffer, if it fits there.
+// For the values of all names. The line is written at the front of the buffer, if it fits there.
+fn write_line(
+    head: &[u8],
+    tables: Tables,
+    room: &[u16],
+    feature: &[u8],
+    number: usize,
+    out: &mut [u8],
+    rows: &[usize; 144],
+    floats: &[f64; 192],
+) -> Painted
+    ensures { λ r. ⌜ (answerOf r, now (out .exit)) ≡ drawnBy (tableSource (now (head .entry)) (now (feature .entry)) (now (room .entry)) tables) (tables .counts) number (now (out .entry)) (now (rows .entry), now (floats .entry)) ⌝ }
+{
+    let from = tables.froms;
+    let to = tables.tos;
+    let root = tables.roots;
+    let shows = tables.counts.shows;
+    let show = draw::show(head, feature, room, &from, &to, &root, shows, rows, floats);
+    let colouring = draw::colouring(
+        head,
+        feature,
+        room,
+        &from,
+        &to,
+        &root,
+        tables.counts.colours,
+        tables.counts.conditions,
+        rows,
+        floats,
+    );
+    let bytes = line::painted(out, number, show, colouring);
+    Painted::Painted {
+        show,
+        colouring,
+        bytes,
+    }
+}
+
+// For the values of the properties: those of the defines come first.
 fn draw_values(
     head: &[u8],
     tables: Tables,
@@ -23,50 +61,12 @@ fn draw_values(
 ) -> Painted
     ensures { λ r. ⌜ (answerOf r, now (out .exit)) ≡ drawn (tableSource (now (head .entry)) (now (feature .entry)) (now (room .entry)) tables) (tables .counts) number (now (out .entry)) (now (rows .entry)) (now (floats .entry)) ⌝ }
 {
-    let counts = tables.counts;
-    let froms = tables.froms;
-    let tos = tables.tos;
-    let roots = tables.roots;
-    draw::store_defines(
-        head,
-        feature,
-        room,
-        &froms,
-        &tos,
-        &roots,
-        counts.defines,
-        rows,
-        floats,
-    );
-    let show = draw::show(
-        head,
-        feature,
-        room,
-        &froms,
-        &tos,
-        &roots,
-        counts.shows,
-        rows,
-        floats,
-    );
-    let colouring = draw::colouring(
-        head,
-        feature,
-        room,
-        &froms,
-        &tos,
-        &roots,
-        counts.colours,
-        counts.conditions,
-        rows,
-        floats,
-    );
-    let bytes = line::painted(out, number, show, colouring);
-    Painted::Painted {
-        show,
-        colouring,
-        bytes,
-    }
+    let from = tables.froms;
+    let to = tables.tos;
+    let root = tables.roots;
+    let count = tables.counts.defines;
+    draw::store_defines(head, feature, room, &from, &to, &root, count, rows, floats);
+    write_line(head, tables, room, feature, number, out, rows, floats)
 }
 
 // The answer for a feature by the tables and the room that `compile` leaves. An accepted feature's line

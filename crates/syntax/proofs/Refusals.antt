@@ -16,14 +16,11 @@ use Rattle.tree.specs.Tree.{Tree}
 use Rattle.syntax.specs.Parser.{Result, part, refused, spent, parseOf}
 use Rattle.syntax.specs.Height.{heightOf}
 use Rattle.syntax.specs.Names.{unknownIn, leftmostOf}
-use Rattle.syntax.specs.Judge.{Judged, fine, refusal, byNames, byHeight, byGrammar, byTokens, bySize, judgedOf}
+use Rattle.syntax.specs.Judge.{refusal, byNames, byHeight, byGrammar, byTokens, bySize, judgedOf}
 use Rattle.syntax.specs.declared.names.Leftmost.{Leftmost}
 use Rattle.syntax.specs.declared.names.Leftmost.the-variants.{At, Nothing}
 use Rattle.syntax.specs.declared.symbol.Symbol.{Symbol}
-
-abbrev numberOf : Judged → ℕ
-numberOf (fine e) = 0
-numberOf (refusal n p) = n
+use Rattle.syntax.proofs.Grammar.Judged.{numberOf}
 
 module _ (text : List ℕ) where
   names-below : (l : Leftmost) (e : Tree) → numberOf (byNames l e) ≤ 6

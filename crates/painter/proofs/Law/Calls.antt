@@ -1,7 +1,7 @@
 -- What the calls answer, by what they were answered.
 use mathlib.Core.Path.{_≡_, refl, sym, _∙_, ap, subst}
 use mathlib.Core.Bool.{Bool, true, false, cond, _||_, false≢true}
-use mathlib.Core.List.{List, []}
+use mathlib.Core.List.{List}
 use Prim.Native.Nat.{ℕ, _+_, _<_, _≤_}
 use native.Mathlib.Omega.{arith}
 use borrow.Author.Tests.{lt-ltb, le-ltb}
@@ -19,12 +19,12 @@ use Rattle.style.specs.declared.check.Refusal.{Refusal}
 use Rattle.style.specs.declared.tables.Tables.{Tables}
 use Rattle.style.proofs.Accepted.{accepted-stand}
 use Rattle.style.proofs.Law.Ladder.{taken, passed}
+use Rattle.style.proofs.Law.Loop.{isAccepted}
 use Rattle.feature.specs.Feature.{setsOf, Entered, refused, entered, complete, broken, enteredOf, answered, featureOf, rowsAfter, floatsAfter, valuesOf, rowsWith, floatsWith}
 use Rattle.feature.specs.declared.feature.Feature.{Feature}
 use Rattle.feature.specs.declared.feature.Feature.the-variants.{Refused, Read}
-use Rattle.painter.specs.Paint.{Answer, refusal, accepted, answerOf, featured, headed, isShort, paintedOf, outAfter, roomAfter}
+use Rattle.painter.specs.Paint.{Answer, refusal, featured, headed, isShort, paintedOf, outAfter, roomAfter}
 use Rattle.painter.specs.Arrays.{tableSource, drawn, appliedBy, appliedOf}
-use Rattle.painter.specs.declared.paint.Painted.{Painted}
 use Rattle.painter.proofs.Law.Drawn.{applied-is}
 
 -- ---- a feature that was read
@@ -93,10 +93,6 @@ module _ (bytes : ℕ) (room : List ℕ) (head : List ℕ) (number : ℕ) (featu
     abbrev answerIn : Checked → Answer
     answerIn (checked.Refused r) = refusal (r .number) (r .line) (r .place)
     answerIn checked.Accepted = refusal 0 0 0
-
-    abbrev isAccepted : Checked → Bool
-    isAccepted (checked.Refused r) = false
-    isAccepted checked.Accepted = true
 
     pub refused-answer : (x : Checked) → x ≡ checkedOf (length room) head → (r : Refusal) → x ≡ checked.Refused r → answerIn (checked.Refused r) ≡ paintedOf bytes (length room) head number feature
     unfolding checkedOf paintedOf

@@ -1,49 +1,43 @@
 -- What is applied to a feature by tables, room and arrays is what the style gives it.
-use mathlib.Core.Path.{_≡_, refl, sym, _∙_, ap, subst}
+use mathlib.Core.Path.{_≡_, refl, _∙_, ap}
 use mathlib.Core.Bool.{Bool, true, false, cond}
 use mathlib.Core.List.{List, [], _∷_, _++_, map}
-use Prim.Native.Nat.{ℕ, zero, suc, _+_, _*_, _<_, _≤_}
+use Prim.Native.Nat.{ℕ, zero, suc, _+_, _*_, _≤_}
 use native.Mathlib.Omega.{arith}
 use borrow.Author.Tests.{le-ltb, lt-ltb, le-leb}
-use lib.Dec.{eqb, ltb, leb, eqb·suc-zero}
-use lib.Ieee.{Float, nan}
-use lib.ListN.{length, getD, drop, replicate, length-replicate, getD-replicate}
+use lib.Dec.{leb, eqb·suc-zero}
+use lib.Ieee.{Float}
+use lib.ListN.{length, getD, drop, replicate, length-replicate}
 use Rattle.number.specs.Arithmetic.{nought}
-use Rattle.kind.specs.declared.set.Kinds.{Kinds}
-use Rattle.value.specs.Value.{truth}
 use Rattle.value.specs.declared.value.Value.{Value}
 use Rattle.value.specs.declared.value.Value.the-variants.{Undefined}
 use Rattle.checker.specs.Name.{numberOf}
-use Rattle.checker.specs.Property.{setAt}
 use Rattle.checker.specs.declared.name.Scope.the-variants as scope
 use Rattle.checker.specs.declared.check.Wanted.the-variants as wanted
 use Rattle.evaluator.specs.Values.{valueAt}
 use Rattle.style.specs.Style.{Declared, Expression, Define, Condition, Style}
 use Rattle.style.specs.Tables.{Each, NameRow, StyleHeld, Holds}
 use Rattle.style.specs.Accepted.{Stands, AllStand}
-use Rattle.style.specs.declared.tables.Counts.{Counts}
 use Rattle.style.specs.declared.tables.Tables.{Tables}
-use Rattle.feature.specs.Feature.{setsFrom, setsOf, Entered, refused, entered, complete, broken, enteredOf, answered, valuesOf, AllOf, rowsWith, floatsWith}
-use Rattle.feature.proofs.Conforming.{read-gives, read-within}
+use Rattle.feature.specs.Feature.{setsFrom, setsOf, Entered, refused, entered, complete, broken, enteredOf, answered, AllOf, rowsWith, floatsWith}
+use Rattle.feature.proofs.Conforming.{read-within, entered-conform}
 use Rattle.feature.proofs.Filled.{filled, unfilled, rows-kept, floats-kept}
 use Rattle.feature.proofs.Own.{AllOwn, read-own}
 use Rattle.output.specs.Line.{front, paintedLine}
-use Rattle.output.specs.declared.line.Colouring.{Colouring}
-use Rattle.output.specs.declared.line.Colouring.the-variants.{Of}
 use Rattle.output.proofs.Sizes.{painted-fits}
-use Rattle.painter.specs.Meaning.{propertyValue, shownBy, conditionedBy, colouredBy, showOf, colouringOf, white}
-use Rattle.painter.specs.Paint.{Answer, refusal, accepted, kindsOf, schemaOf, featuredBy, featured, outAfter}
+use Rattle.painter.specs.Meaning.{propertyValue, shownBy, conditionedBy, colouredBy, showOf, colouringOf}
+use Rattle.painter.specs.Paint.{declaredKinds, schemaOf, featuredBy, featured, outAfter}
 use Rattle.painter.specs.Arrays.{Source, tableSource, definedFrom, conditionedFrom, few, shownAt, colouredAt, writtenBy, drawnBy, drawn, appliedBy, appliedOf}
 use Rattle.painter.proofs.Law.Values.{Filled, definedValue, style-names}
 use Rattle.painter.proofs.Law.Rows.{own, Defined, defined, row-truth, row-colour}
 
 -- ---- the sets of the properties
 
-sets-are : (head starts ends sets : List ℕ) (i : ℕ) (ds : List Declared) → Each (λ i (d : Declared). NameRow head starts ends sets i (d .name) (kindsOf d)) i ds → setsFrom sets i (length ds) ≡ map kindsOf ds
+sets-are : (head starts ends sets : List ℕ) (i : ℕ) (ds : List Declared) → Each (λ i (d : Declared). NameRow head starts ends sets i (d .name) (declaredKinds d)) i ds → setsFrom sets i (length ds) ≡ map declaredKinds ds
 sets-are head starts ends sets i [] rs = refl
 sets-are head starts ends sets i (d ∷ ds) rs = λ j. rs .0 .set j ∷ sets-are head starts ends sets (suc i) ds (rs .1) j
 
-all-size : (ds : List Declared) (vs : List Value) → AllOf (map kindsOf ds) vs → length ds ≡ length vs
+all-size : (ds : List Declared) (vs : List Value) → AllOf (map declaredKinds ds) vs → length ds ≡ length vs
 all-size [] [] a = refl
 all-size [] (v ∷ vs) a = absurd a
 all-size (d ∷ ds) [] a = absurd a
@@ -200,6 +194,4 @@ module _ (head feature room : List ℕ) (t : Tables) (fits : length head ≤ len
       go (refused n p) e = refl
       go (entered (broken vs p)) e = refl
       go (entered (complete vs)) e =
-          let r = read-gives (schemaOf s) number feature (ap answered e) in
-          let conform = subst (AllOf (schemaOf s)) (ap valuesOf (sym (r .1) ∙ e)) (r .2) in
-          drawn-is vs conform (read-own (schemaOf s) number feature vs e) number out (read-within (schemaOf s) number feature (ap answered e) .1) k
+          drawn-is vs (entered-conform (schemaOf s) number feature vs e) (read-own (schemaOf s) number feature vs e) number out (read-within (schemaOf s) number feature (ap answered e) .1) k

@@ -8,7 +8,7 @@ use lib.ListN.{length, take, drop}
 use lib.Seq.{slice, take-take, length-slice}
 use Rattle.lexer.specs.Token.{meaning}
 use Rattle.lexer.proofs.Law.Spelling.{slice-is}
-use Rattle.value.specs.Value.{textIn, span}
+use Rattle.value.specs.Value.{textIn}
 use Rattle.value.specs.declared.apply.Outcome.{Outcome}
 use Rattle.value.specs.declared.apply.Outcome.the-variants as outcome
 use Rattle.value.specs.declared.value.Span.{Span}

@@ -2,7 +2,7 @@
 use mathlib.Core.Path.{_≡_, refl, sym, _∙_, ap, subst}
 use mathlib.Core.Bool.{Bool, true, false, cond}
 use mathlib.Core.List.{List, [], _∷_, _++_, append-assoc}
-use Prim.Native.Nat.{ℕ, zero, suc, _+_, _*_, _<_, _≤_}
+use Prim.Native.Nat.{ℕ, suc, _+_, _<_, _≤_}
 use native.Mathlib.Omega.{arith}
 use borrow.Author.Tests.{lt-leb, le-ltb}
 use lib.Ieee.{Float}
@@ -15,13 +15,10 @@ use Rattle.value.specs.declared.apply.Outcome.{Outcome}
 use Rattle.value.specs.declared.apply.Outcome.the-variants.{Fault, Worked}
 use Rattle.value.specs.declared.value.Span.{Span}
 use Rattle.value.specs.declared.value.Value.{Value}
-use Rattle.value.specs.declared.value.Value.the-variants.{Undefined}
-use Rattle.tree.specs.Tree.{place}
 use Rattle.syntax.specs.Judge.{fine, judgedOf}
 use Rattle.checker.specs.Name.{nameAt, numberOf}
 use Rattle.checker.specs.declared.name.Scope.{Scope}
 use Rattle.checker.specs.declared.name.Scope.the-variants as scope
-use Rattle.checker.specs.declared.check.Wanted.{Wanted}
 use Rattle.checker.specs.declared.check.Wanted.the-variants as wanted
 use Rattle.checker.proofs.Resolved.{number-below}
 use Rattle.evaluator.specs.Literal.{literalAt, movedValue}
@@ -32,21 +29,21 @@ use Rattle.evaluator.specs.Alike.{AlikeOutcomes}
 use Rattle.evaluator.proofs.Alike.{alike-truth, alike-colour}
 use Rattle.evaluator.proofs.Answers.{evaluated-named}
 use Rattle.evaluator.proofs.Stored.{stored-back, stored-others, rows-length, floats-length}
-use Rattle.style.specs.Style.{Expression, Define, Condition, Style}
-use Rattle.style.specs.Tables.{Each, Laid, Held, Behind, StyleHeld, Holds}
+use Rattle.style.specs.Style.{Expression, Define, Style}
+use Rattle.style.specs.Tables.{Each, Laid, Held, StyleHeld, Holds}
 use Rattle.style.specs.Accepted.{Stands, AllStand}
 use Rattle.style.specs.declared.tables.Tables.{Tables}
 use Rattle.style.proofs.Law.Ladder.{passed}
 use Rattle.feature.specs.Feature.{AllOf}
 use Rattle.output.specs.declared.line.Colouring.the-variants.{Of}
-use Rattle.painter.specs.Meaning.{propertyValue, propertyOutcome, expressionAt, definedOutcome, definesText, outcomeOf, isTrue, colourBy, shownBy, conditionedBy}
+use Rattle.painter.specs.Meaning.{propertyValue, propertyOutcome, expressionAt, definedOutcome, definesText, outcomeOf, isTrue, colourBy}
 use Rattle.painter.specs.Paint.{schemaOf}
 use Rattle.painter.specs.Demand.{named}
-use Rattle.painter.specs.Arrays.{tableSource, rowValue, definedFrom, colourAt, conditionedFrom, shownAt}
+use Rattle.painter.specs.Arrays.{tableSource, rowValue, definedFrom, colourAt}
 use Rattle.painter.proofs.Sound.{stands-sound, property-conforms}
 use Rattle.feature.proofs.Own.{AllOwn}
 use Rattle.painter.proofs.Law.Own.{own-value}
-use Rattle.painter.proofs.Law.Values.{Filled, define-names, definedValue, style-names}
+use Rattle.painter.proofs.Law.Values.{Filled, define-names, definedValue}
 use Rattle.painter.proofs.Law.Places.{Lies, Together, own-alike, later, expression-alike}
 
 -- ---- outcomes

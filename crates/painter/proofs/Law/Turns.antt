@@ -20,7 +20,7 @@ use Rattle.output.specs.declared.line.Colouring.{Colouring}
 use Rattle.output.specs.declared.line.Colouring.the-variants.{None}
 use Rattle.style.specs.declared.tables.Counts.{Counts}
 use Rattle.output.specs.Line.{front, paintedLine}
-use Rattle.painter.specs.Paint.{accepted}
+use Rattle.painter.specs.Paint.{Answer, accepted}
 use Rattle.painter.specs.Arrays.{Source, rowValue, definedFrom, colourAt, conditionedFrom, few, shownAt, colouredAt, writtenBy, drawnBy, drawn}
 
 pub few-most : (n : ℕ) → few n ≤ 16
@@ -117,13 +117,14 @@ module _ (x : Source) (rows : List ℕ) (floats : List Float) (count : ℕ) wher
 
 -- ---- the line
 
--- the steps one after another, each from what the one before it gave
-pub drawn-by : (x : Source) (c : Counts) (number : ℕ) (out : List ℕ) (rows : List ℕ) (floats : List Float) (rows′ : List ℕ) (floats′ : List Float) →
-    (rows′, floats′) ≡ definedFrom x (few (c .defines)) 0 (rows, floats) → (show : Bool) → show ≡ shownAt x rows′ floats′ (c .shows) → (colouring : Colouring) →
-    colouring ≡ colouredAt x rows′ floats′ (c .colours) (c .conditions) → (out′ : List ℕ) (bytes : ℕ) → (out′, bytes) ≡ front out (paintedLine number show colouring) →
-    (accepted show colouring bytes, out′) ≡ drawn x c number out rows floats
+-- each step from what the one before it gave
+pub written-by : (x : Source) (c : Counts) (number : ℕ) (out : List ℕ) (rows : List ℕ) (floats : List Float) (show : Bool) → show ≡ shownAt x rows floats (c .shows) → (colouring : Colouring) →
+    colouring ≡ colouredAt x rows floats (c .colours) (c .conditions) → (out′ : List ℕ) (bytes : ℕ) → (out′, bytes) ≡ front out (paintedLine number show colouring) →
+    (accepted show colouring bytes, out′) ≡ drawnBy x c number out (rows, floats)
+written-by x c number out rows floats show s colouring k out′ bytes w =
+    (λ i. writtenBy show colouring (w i)) ∙ (λ i. writtenBy (s i) (k i) (front out (paintedLine number (s i) (k i))))
+
+pub drawn-by : (x : Source) (c : Counts) (number : ℕ) (out : List ℕ) (rows : List ℕ) (floats : List Float) (after : List ℕ × List Float) →
+    after ≡ definedFrom x (few (c .defines)) 0 (rows, floats) → (p : Answer × List ℕ) → p ≡ drawnBy x c number out after → p ≡ drawn x c number out rows floats
 unfolding drawn
-drawn-by x c number out rows floats rows′ floats′ d show s colouring k out′ bytes w =
-    (λ i. writtenBy show colouring (w i))
-    ∙ (λ i. writtenBy (s i) (k i) (front out (paintedLine number (s i) (k i))))
-    ∙ ap (drawnBy x c number out) d
+drawn-by x c number out rows floats after d p w = w ∙ ap (drawnBy x c number out) d

@@ -115,10 +115,10 @@ module _ (head starts ends line : List ℕ) where
 
 -- ---- an expression of a line
 
-on-refused : {j : Judgement} (k : Expression → Said) {n p : ℕ} → j ≡ judged.refused n p → onExpression j k ≡ refused n p
+pub on-refused : {j : Judgement} (k : Expression → Said) {n p : ℕ} → j ≡ judged.refused n p → onExpression j k ≡ refused n p
 on-refused k e = ap (λ j. onExpression j k) e
 
-on-accepted : {j : Judgement} (k : Expression → Said) {x : Expression} → j ≡ judged.accepted x → onExpression j k ≡ k x
+pub on-accepted : {j : Judgement} (k : Expression → Said) {x : Expression} → j ≡ judged.accepted x → onExpression j k ≡ k x
 on-accepted k e = ap (λ j. onExpression j k) e
 
 -- the kinds of names are the style's

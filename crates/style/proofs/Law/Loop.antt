@@ -198,7 +198,7 @@ further head room t s at to l h =
     wider : (c : Scope) (row : ℕ) (e : Expression) → Held c head room t at row e → Held c head room t to row e
     wider c row e y = (omega (arith, y .0, l), y .1)
 
-abbrev isAccepted : Checked → Bool
+abbrev pub isAccepted : Checked → Bool
 isAccepted checked.Accepted = true
 isAccepted (checked.Refused r) = false
 

@@ -27,7 +27,7 @@ use Rattle.syntax.specs.declared.judge.Judgement.the-variants.{Fine, Ref
 use Rattle.syntax.proofs.Grammar.Text.{never-spent, accepts, refuses}
 
 -- a refusal's number; 0 for none
-abbrev numberOf : Judged → ℕ
+abbrev pub numberOf : Judged → ℕ
 numberOf (fine e) = 0
 numberOf (refusal n p) = n
 

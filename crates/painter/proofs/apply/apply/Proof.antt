@@ -4,10 +4,6 @@ use Rattle.painter.proofs.Law.Calls.{applied-refused, applied-read}
 use borrow.Author.Needs.{needs}
 use Rattle.painter.proofs.apply.apply.Statement.{statement}
 use Rattle.painter.proofs.apply.apply.Tie as tie
-use Rattle.painter.proofs.apply.apply.Reads as reads
-use Rattle.painter.proofs.apply.apply.Lts as lts
-use Rattle.feature.proofs.feature.read.Reads as read-reads
-use Rattle.painter.proofs.apply.draw_values.Reads as draw-values-reads
 
 read-requires : tie.Need-read-requires
 read-requires c κs = search needs

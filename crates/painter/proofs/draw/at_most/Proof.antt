@@ -4,8 +4,6 @@ use borrow.Author.Tests.{lt-ltb, le-ltb}
 use Rattle.style.proofs.Law.Ladder.{taken, passed}
 use Rattle.painter.proofs.draw.at_most.Statement.{statement}
 use Rattle.painter.proofs.draw.at_most.Tie as tie
-use Rattle.painter.proofs.draw.at_most.Reads as reads
-use Rattle.painter.proofs.draw.at_most.Lts as lts
 
 returns : tie.Need-returns
 returns c =

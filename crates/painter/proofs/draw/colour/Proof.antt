@@ -6,11 +6,6 @@ use Rattle.output.specs.declared.line.Colouring.the-variants.{Of}
 use borrow.Author.Needs.{needs}
 use Rattle.painter.proofs.draw.colour.Statement.{statement}
 use Rattle.painter.proofs.draw.colour.Tie as tie
-use Rattle.painter.proofs.draw.colour.Reads as reads
-use Rattle.painter.proofs.draw.colour.Lts as lts
-use Rattle.colour.proofs.colour.Colour.clamped.Reads as clamped-reads
-use Rattle.painter.proofs.draw.row_value.Reads as row-value-reads
-use Rattle.value.proofs.value.colour_of.Reads as colour-of-reads
 
 row-value-requires : tie.Need-row-value-requires
 row-value-requires c κs = search needs

@@ -7,10 +7,6 @@ use Rattle.colour.specs.Colour.{ofBytes, rgbOf, rgbaOf}
 use borrow.Author.Needs.{needs}
 use Rattle.painter.proofs.draw.colouring.Statement.{statement}
 use Rattle.painter.proofs.draw.colouring.Tie as tie
-use Rattle.painter.proofs.draw.colouring.Reads as reads
-use Rattle.painter.proofs.draw.colouring.Lts as lts
-use Rattle.painter.proofs.draw.colour.Reads as colour-reads
-use Rattle.painter.proofs.draw.condition.Reads as condition-reads
 
 colour-requires : tie.Need-colour-requires
 colour-requires c κs = search needs

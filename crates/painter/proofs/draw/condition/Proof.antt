@@ -2,7 +2,6 @@
 use borrow.Author.Needs.{needs}
 use mathlib.Core.Path.{sym, _∙_, ap}
 use native.Mathlib.Omega.{arith}
-use Rattle.style.proofs.Law.Ladder.{taken}
 use Rattle.painter.specs.Arrays.{few}
 use Prim.Native.Nat.{_-_}
 use Rattle.value.specs.Value.{truth}
@@ -10,12 +9,6 @@ use Rattle.painter.specs.Arrays.{source}
 use Rattle.painter.proofs.Law.Turns.{few-most, Seeking, seeking-start, seeking-found, seeking-turn, seeking-end}
 use Rattle.painter.proofs.draw.condition.Statement.{statement}
 use Rattle.painter.proofs.draw.condition.Tie as tie
-use Rattle.painter.proofs.draw.condition.Reads as reads
-use Rattle.painter.proofs.draw.condition.Lts as lts
-use Rattle.painter.proofs.draw.at_most.Reads as at-most-reads
-use Rattle.painter.proofs.draw.colour.Reads as colour-reads
-use Rattle.painter.proofs.draw.row_value.Reads as row-value-reads
-use Rattle.value.proofs.value.is_true.Reads as is-true-reads
 
 abbrev Inv-loop : tie.InvT-loop
 Inv-loop head feature room froms tos roots conditions rows floats count k₀ k =

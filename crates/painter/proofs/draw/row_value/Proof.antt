@@ -9,10 +9,6 @@ use Rattle.painter.proofs.Law.Turns.{row-inside}
 use borrow.Author.Needs.{needs}
 use Rattle.painter.proofs.draw.row_value.Statement.{statement}
 use Rattle.painter.proofs.draw.row_value.Tie as tie
-use Rattle.painter.proofs.draw.row_value.Reads as reads
-use Rattle.painter.proofs.draw.row_value.Lts as lts
-use Rattle.evaluator.proofs.evaluate.evaluate.Reads as evaluate-reads
-use Rattle.evaluator.proofs.operation.value_in.Reads as value-in-reads
 
 returns : tie.Need-returns
 unfolding rowValue

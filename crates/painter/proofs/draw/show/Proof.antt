@@ -6,10 +6,6 @@ use Rattle.value.specs.Value.{truth}
 use borrow.Author.Needs.{needs}
 use Rattle.painter.proofs.draw.show.Statement.{statement}
 use Rattle.painter.proofs.draw.show.Tie as tie
-use Rattle.painter.proofs.draw.show.Reads as reads
-use Rattle.painter.proofs.draw.show.Lts as lts
-use Rattle.painter.proofs.draw.row_value.Reads as row-value-reads
-use Rattle.value.proofs.value.is_true.Reads as is-true-reads
 
 returns : tie.Need-returns
 returns c =

@@ -1,18 +1,12 @@
 -- `store_defines`: the loop's turns.
 use borrow.Author.Needs.{needs}
 use native.Mathlib.Omega.{arith}
-use Rattle.style.proofs.Law.Ladder.{taken}
 use Rattle.painter.specs.Arrays.{few}
 use Prim.Native.Nat.{_-_}
 use Rattle.painter.specs.Arrays.{source}
 use Rattle.painter.proofs.Law.Turns.{few-most, Storing, storing-start, storing-turn, storing-end}
 use Rattle.painter.proofs.draw.store_defines.Statement.{statement}
 use Rattle.painter.proofs.draw.store_defines.Tie as tie
-use Rattle.painter.proofs.draw.store_defines.Reads as reads
-use Rattle.painter.proofs.draw.store_defines.Lts as lts
-use Rattle.evaluator.proofs.values.store.Reads as store-reads
-use Rattle.painter.proofs.draw.at_most.Reads as at-most-reads
-use Rattle.painter.proofs.draw.row_value.Reads as row-value-reads
 
 abbrev Inv-loop : tie.InvT-loop
 Inv-loop head feature room froms tos roots defines rows₀ floats₀ count i₀ rows floats i =
