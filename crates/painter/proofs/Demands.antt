@@ -1,4 +1,4 @@
--- The three demands, about what the calls answer. Of `check` (crate style, src/check.rt) and `paint` (src/paint.rt) the promises say, for every input, that they answer `checkedOf` and `paintedOf`, and that the room and the
+-- The three demands (README), about what the calls answer; words in quotation marks are page 01's. Of `check` (crate style, src/check.rt) and `paint` (src/paint.rt) the promises say, for every input, that they answer `checkedOf` and `paintedOf`, and that the room and the
 -- buffer are afterwards as `roomAfter` and `outAfter` say. These are theorems about those definitions.
 use mathlib.Core.Path.{_≡_, refl, sym, _∙_, ap}
 use mathlib.Core.Bool.{Bool, true, false, cond, _||_, false≢true}
@@ -273,7 +273,8 @@ module _ (slots : ℕ) (enough : roomSize ≤ slots) (head : List ℕ) (small : 
   pub schema-first : (s : Style) → headOf head ≡ gives s → Front 1 empty (lines head) s
   unfolding headOf
   schema-first s is = properties-first (lines head) s is
-  -- ---- `compile` and `apply`, for many features under one head, come to what `paint` answers and writes
+
+-- ---- the program: `compile` and `apply`, for many features under one head, come to what `paint` answers and writes
 
 pub applied : (head room after : List ℕ) (t : Tables) → Leaves checked.Accepted head room after t → (number : ℕ) (feature out : List ℕ) → 32 ≤ length out →
     let a = paintedOf (length out) (length room) head number feature in
