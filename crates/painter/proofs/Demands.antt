@@ -6,7 +6,7 @@ use mathlib.Core.List.{List, [], _∷_, map}
 use mathlib.Core.Logic.{_↔_, _⊎_, inl, inr}
 use Prim.Native.Nat.{ℕ, _+_, _<_, _≤_}
 use native.Mathlib.Omega.{arith}
-use borrow.Author.Tests.{le-ltb}
+use borrow.Author.Tests.{le-ltb, ltb-true, ltb-false}
 use lib.Dec.{T, eqb, ltb}
 use lib.ListN.{length, drop}
 use Rattle.lexer.specs.Bytes.{same, ascii}
@@ -48,7 +48,7 @@ use Rattle.painter.specs.Demand.{NoneFails, NoneTrue, workedOut, named, 
 use Rattle.painter.proofs.Sound as sound
 use Rattle.painter.specs.Arrays.{appliedOf}
 use Rattle.painter.proofs.Origins.{Origin, head-refused, refused-line, refused-origin, given-whole, Front, properties-first}
-use Rattle.painter.proofs.Law.Calls.{painted-answer, painted-out}
+use Rattle.painter.proofs.Law.Calls.{applied-short, short-answer, painted-answer, painted-out}
 use Rattle.painter.proofs.Judged.{four-judged, verdictOf, seven-judged}
 use Rattle.painter.proofs.Complete.{reads-conform, refused-exactly}
 
@@ -276,11 +276,21 @@ module _ (slots : ℕ) (enough : roomSize ≤ slots) (head : List ℕ) (small : 
 
 -- ---- the program: `compile` and `apply`, for many features under one head, come to what `paint` answers and writes
 
-pub applied : (head room after : List ℕ) (t : Tables) → Leaves checked.Accepted head room after t → (number : ℕ) (feature out : List ℕ) → 32 ≤ length out →
-    let a = paintedOf (length out) (length room) head number feature in
-    appliedOf head t after feature number out ≡ (a, outAfter a number out)
-applied head room after t l number feature out h =
-    let p = appliedOf head t after feature number out in
-    let a = painted-answer (length out) room head number feature h checked.Accepted after t l refl out refl (p .0) (p .1) refl in
-    let o = painted-out (length out) room head number feature h checked.Accepted after t l refl out refl (p .0) (p .1) refl in
-    λ i. (a i, (o ∙ ap (λ (x : Answer). outAfter x number out) a) i)
+module _ (head room after : List ℕ) (t : Tables) (l : Leaves checked.Accepted head room after t) (number : ℕ) (feature out : List ℕ) where
+  abbrev answer : Answer
+  answer = paintedOf (length out) (length room) head number feature
+
+  by-size : (b : Bool) → ltb (length out) 32 ≡ b → appliedOf head t after feature number out ≡ (answer, outAfter answer number out)
+  by-size true e =
+      let h = ltb-true (length out) 32 e in
+      let a = short-answer (length out) room head number feature h in
+      sym (applied-short head t after feature number out h) ∙ (λ i. (a i, outAfter (a i) number out))
+  by-size false e =
+      let h = ltb-false (length out) 32 e in
+      let p = appliedOf head t after feature number out in
+      let a = painted-answer (length out) room head number feature h checked.Accepted after t l refl out refl (p .0) (p .1) refl in
+      let o = painted-out (length out) room head number feature h checked.Accepted after t l refl out refl (p .0) (p .1) refl in
+      λ i. (a i, (o ∙ ap (λ (x : Answer). outAfter x number out) a) i)
+
+  pub applied : appliedOf head t after feature number out ≡ (answer, outAfter answer number out)
+  applied = by-size (ltb (length out) 32) refl

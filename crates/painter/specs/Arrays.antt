@@ -97,7 +97,9 @@ appliedBy x c number out (entered (complete vs)) = drawn x c number out (rowsWit
 abbrev pub tableSource : List ℕ → List ℕ → List ℕ → Tables → Source
 tableSource head feature room t = source head feature room (t .froms) (t .tos) (t .roots)
 
+-- "an output buffer under 32 bytes" comes first here too
 unfoldable pub appliedOf : List ℕ → Tables → List ℕ → List ℕ → ℕ → List ℕ → Answer × List ℕ
 unfolding drawn enteredOf
 appliedOf head t room feature number out =
-    appliedBy (tableSource head feature room t) (t .counts) number out (enteredOf (setsOf (t .sets) (t .counts .properties)) number feature)
+    cond (ltb (length out) 32) (refusal 10 0 0, out)
+    (appliedBy (tableSource head feature room t) (t .counts) number out (enteredOf (setsOf (t .sets) (t .counts .properties)) number feature))

@@ -3,7 +3,9 @@ ghost use mathlib.Core.Path.{_≡_};
 ghost use Rattle.painter.specs.Paint.{answerOf};
 ghost use Rattle.painter.specs.Arrays.{tableSource, drawnBy, drawn, appliedOf};
 use crate::draw;
+use crate::paint::LEAST_BYTES;
 use crate::paint::Painted;
+use crate::paint::too_small;
 use feature::feature::Feature;
 use feature::feature::read;
 use output::line;
@@ -69,8 +71,8 @@ fn draw_values(
     write_line(head, tables, room, feature, number, out, rows, floats)
 }
 
-// The answer for a feature by the tables and the room that `compile` leaves. An accepted feature's line
-// is written at the front of the buffer; one that has no space for it stays as it is.
+// What `paint` answers for a feature, by the tables and the room that `compile` leaves. An accepted
+// feature's line is written at the front of the buffer.
 pub fn apply(
     head: &[u8],
     tables: Tables,
@@ -81,6 +83,9 @@ pub fn apply(
 ) -> Painted
     ensures { λ r. ⌜ (answerOf r, now (out .exit)) ≡ appliedOf (now (head .entry)) tables (now (room .entry)) (now (feature .entry)) number (now (out .entry)) ⌝ }
 {
+    if out.len() < LEAST_BYTES {
+        return too_small();
+    }
     let sets = tables.sets;
     let properties = tables.counts.properties;
     let mut rows = [0usize; 144];

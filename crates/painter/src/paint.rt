@@ -1,7 +1,7 @@
 // The painter's call.
 ghost use mathlib.Core.Path.{_≡_};
 ghost use lib.ListN.{length};
-ghost use Rattle.painter.specs.Paint.{answerOf, paintedOf, outAfter, roomAfter};
+ghost use Rattle.painter.specs.Paint.{refusal, answerOf, paintedOf, outAfter, roomAfter};
 use crate::apply::apply;
 use output::line::Colouring;
 use style::check::Checked;
@@ -21,7 +21,18 @@ pub enum Painted {
 }
 
 // The least that a buffer has to hold.
-const LEAST_BYTES: usize = 32;
+pub(crate) const LEAST_BYTES: usize = 32;
+
+// The answer for a buffer that holds less.
+pub(crate) fn too_small() -> Painted
+    ensures { λ r. ⌜ answerOf r ≡ refusal 10 0 0 ⌝ }
+{
+    Painted::Refused(Refusal {
+        number: 10,
+        line: 0,
+        place: 0,
+    })
+}
 
 // Paints a feature by a head: its line is written at the front of the buffer. A refused call leaves the
 // buffer as it is. The room is zero afterwards; if the buffer or the room is too small it stays as it is.
@@ -37,11 +48,7 @@ pub fn paint(
     ensures zero { λ _. ⌜ now (room .exit) ≡ roomAfter (length (now (out .entry))) (now (room .entry)) ⌝ }
 {
     if out.len() < LEAST_BYTES {
-        return Painted::Refused(Refusal {
-            number: 10,
-            line: 0,
-            place: 0,
-        });
+        return too_small();
     }
     let compiled = compile(head, room);
     let answer = compiled.answer;

@@ -41,27 +41,32 @@ abbrev isRead : Feature → Bool
 isRead (Refused n p) = false
 isRead Read = true
 
+-- a buffer that is too small
+pub applied-short : (head : List ℕ) (t : Tables) (room feature : List ℕ) (number : ℕ) (out : List ℕ) → length out < 32 → (refusal 10 0 0, out) ≡ appliedOf head t room feature number out
+unfolding appliedOf
+applied-short head t room feature number out h = sym (taken _ (lt-ltb (length out) 32 h) refl)
+
 module _ (head : List ℕ) (t : Tables) (room feature : List ℕ) (number : ℕ) (out : List ℕ) (r : Feature) (is : r ≡ featureOf (setsOf (t .sets) (t .counts .properties)) number feature) where
   abbrev applied : Entered → Answer × List ℕ
   applied x = appliedBy (tableSource head feature room t) (t .counts) number out x
 
-  pub applied-refused : (n p : ℕ) → r ≡ Refused n p → (refusal n number p, out) ≡ appliedOf head t room feature number out
+  pub applied-refused : 32 ≤ length out → (n p : ℕ) → r ≡ Refused n p → (refusal n number p, out) ≡ appliedOf head t room feature number out
   unfolding appliedOf
-  applied-refused n p e = go (enteredOf (setsOf (t .sets) (t .counts .properties)) number feature) (sym is ∙ e)
+  applied-refused k n p e = sym (passed _ (le-ltb (length out) 32 k) (sym (go (enteredOf (setsOf (t .sets) (t .counts .properties)) number feature) (sym is ∙ e))))
     where
       go : (x : Entered) → answered x ≡ Refused n p → (refusal n number p, out) ≡ applied x
       go (refused m q) h = λ i. (refusal (ap numberIn (sym h) i) number (ap placeIn (sym h) i), out)
       go (entered (broken vs q)) h = λ i. (refusal (ap numberIn (sym h) i) number (ap placeIn (sym h) i), out)
       go (entered (complete vs)) h = absurd (false≢true (sym (ap isRead h)))
 
-  pub applied-read : r ≡ Read → (rows : List ℕ) (floats : List Float) →
+  pub applied-read : 32 ≤ length out → r ≡ Read → (rows : List ℕ) (floats : List Float) →
       (rows ≡ rowsAfter (setsOf (t .sets) (t .counts .properties)) number feature (replicate 144 0)) × (floats ≡ floatsAfter (setsOf (t .sets) (t .counts .properties)) number feature (replicate 192 nought)) →
       (a : Answer) (out′ : List ℕ) → (a, out′) ≡ drawn (tableSource head feature room t) (t .counts) number out rows floats → (a, out′) ≡ appliedOf head t room feature number out
   unfolding appliedOf
-  applied-read e rows floats s a out′ d =
+  applied-read k e rows floats s a out′ d =
       d
       ∙ (λ i. drawn (tableSource head feature room t) (t .counts) number out (s .0 i) (s .1 i))
-      ∙ go (enteredOf (setsOf (t .sets) (t .counts .properties)) number feature) (sym is ∙ e)
+      ∙ sym (passed _ (le-ltb (length out) 32 k) (sym (go (enteredOf (setsOf (t .sets) (t .counts .properties)) number feature) (sym is ∙ e))))
     where
       go : (x : Entered) → answered x ≡ Read →
           drawn (tableSource head feature room t) (t .counts) number out (rowsWith 0 (valuesOf x) (replicate 144 0)) (floatsWith 0 (valuesOf x) (replicate 192 nought)) ≡ applied x

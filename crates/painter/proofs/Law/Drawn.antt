@@ -19,6 +19,7 @@ use Rattle.style.specs.Style.{Declared, Expression, Define, Condition, Style}
 use Rattle.style.specs.Tables.{Each, NameRow, StyleHeld, Holds}
 use Rattle.style.specs.Accepted.{Stands, AllStand}
 use Rattle.style.specs.declared.tables.Tables.{Tables}
+use Rattle.style.proofs.Law.Ladder.{passed}
 use Rattle.feature.specs.Feature.{setsFrom, setsOf, Entered, refused, entered, complete, broken, enteredOf, answered, AllOf, rowsWith, floatsWith}
 use Rattle.feature.proofs.Conforming.{read-within, entered-conform}
 use Rattle.feature.proofs.Filled.{filled, unfilled, rows-kept, floats-kept}
@@ -184,7 +185,8 @@ module _ (head feature room : List ℕ) (t : Tables) (fits : length head ≤ len
   pub applied-is : (number : ℕ) (out : List ℕ) → 32 ≤ length out → appliedOf head t room feature number out ≡ (featured s number feature, outAfter (featured s number feature) number out)
   unfolding appliedOf
   applied-is number out k =
-      (λ i. appliedBy source (t .counts) number out (enteredOf (sets i) number feature)) ∙ go (enteredOf (schemaOf s) number feature) refl
+      passed _ (le-ltb (length out) 32 k)
+      ((λ i. appliedBy source (t .counts) number out (enteredOf (sets i) number feature)) ∙ go (enteredOf (schemaOf s) number feature) refl)
     where
       sets : setsOf (t .sets) (t .counts .properties) ≡ schemaOf s
       sets = ap (setsOf (t .sets)) (holds .counted .properties) ∙ sets-are head (t .starts) (t .ends) (t .sets) 0 (s .properties) (holds .named .properties)

@@ -1,14 +1,27 @@
 -- `paint`: the head, and then the feature.
-use mathlib.Core.Path.{refl}
+use mathlib.Core.Path.{refl, sym, _∙_, ap}
+use Rattle.style.proofs.Law.Ladder.{taken}
 use lib.ListN.{length}
+use Rattle.painter.specs.Paint.{outAfter}
 use Rattle.painter.proofs.Law.Calls.{short-answer, short-room, refused-answer, refused-room, painted-answer, painted-out, painted-room}
 use borrow.Author.Needs.{needs}
 use Rattle.painter.proofs.paint.paint.Statement.{statement}
 use Rattle.painter.proofs.paint.paint.Tie as tie
+use Rattle.painter.proofs.paint.paint.Reads as reads
+use Rattle.painter.proofs.paint.paint.Lts as lts
+use Rattle.painter.proofs.apply.apply.Reads as apply-reads
+use Rattle.painter.proofs.paint.too_small.Reads as too-small-reads
+use Rattle.style.proofs.head.compile.Reads as compile-reads
+use Rattle.syntax.proofs.judge.clear.Reads as clear-reads
+
+too-small-requires : tie.Need-too-small-requires
+too-small-requires c κs = search needs
 
 returns : tie.Need-returns
-returns c =
-    (short-answer (length (c .before .before .before .before .before .args .out .now)) (c .before .before .before .before .before .args .room .now) (c .before .before .before .before .before .args .head .now) (c .before .before .before .before .before .args .number) (c .before .before .before .before .before .args .feature .now) (c .if1 .taken), (refl, short-room (length (c .before .before .before .before .before .args .out .now)) (c .before .before .before .before .before .args .room .now) (c .before .before .before .before .before .args .head .now) (c .before .before .before .before .before .args .number) (c .before .before .before .before .before .args .feature .now) (c .if1 .taken)))
+returns c = (
+  c .too-small .ensures ∙ short-answer (length (c .before .before .before .before .before .before .args .out .now)) (c .before .before .before .before .before .before .args .room .now) (c .before .before .before .before .before .before .args .head .now) (c .before .before .before .before .before .before .args .number) (c .before .before .before .before .before .before .args .feature .now) (c .before .if1 .taken),
+  (sym (ap (λ a. outAfter a (c .before .before .before .before .before .before .args .number) (c .before .before .before .before .before .before .args .out .now)) (c .too-small .ensures)), short-room (length (c .before .before .before .before .before .before .args .out .now)) (c .before .before .before .before .before .before .args .room .now) (c .before .before .before .before .before .before .args .head .now) (c .before .before .before .before .before .before .args .number) (c .before .before .before .before .before .before .args .feature .now) (c .before .if1 .taken)),
+)
 
 compile-requires : tie.Need-compile-requires
 compile-requires c κs = search needs
@@ -53,6 +66,7 @@ pub paint-spec : {M : Type 1} → statement M
 paint-spec =
     tie.close
     (tie.spec
+    too-small-requires
     returns
     compile-requires
     enum-known-answer
