@@ -1,18 +1,11 @@
 -- `paint`: the head, and then the feature.
 use mathlib.Core.Path.{refl, sym, _∙_, ap}
-use Rattle.style.proofs.Law.Ladder.{taken}
 use lib.ListN.{length}
 use Rattle.painter.specs.Paint.{outAfter}
 use Rattle.painter.proofs.Law.Calls.{short-answer, short-room, refused-answer, refused-room, painted-answer, painted-out, painted-room}
 use borrow.Author.Needs.{needs}
 use Rattle.painter.proofs.paint.paint.Statement.{statement}
 use Rattle.painter.proofs.paint.paint.Tie as tie
-use Rattle.painter.proofs.paint.paint.Reads as reads
-use Rattle.painter.proofs.paint.paint.Lts as lts
-use Rattle.painter.proofs.apply.apply.Reads as apply-reads
-use Rattle.painter.proofs.paint.too_small.Reads as too-small-reads
-use Rattle.style.proofs.head.compile.Reads as compile-reads
-use Rattle.syntax.proofs.judge.clear.Reads as clear-reads
 
 too-small-requires : tie.Need-too-small-requires
 too-small-requires c κs = search needs
