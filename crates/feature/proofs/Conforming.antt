@@ -51,32 +51,36 @@ IsRead (Refused n p) = ⊥
 IsRead Read = Unit {0}
 
 module _ (sets : List Kinds) (number : ℕ) (text : List ℕ) where
+  -- what holds of each way that a line can go holds of what it comes to
+  pub by-line : (P : Entered → Type 0) → P (refused 1 4096) → P (refused 1 999999) → P (refused 9 0) → P (refused 9 (length text)) →
+      (length text ≤ 4096 → number ≤ 999999 → length (fields text) ≡ length sets + 1 → P (entered (valuesFrom (length (field text 0) + 1) sets (drop 1 (fields text))))) →
+      P (enteredOf sets number text)
+  unfolding enteredOf fieldsEntered
+  by-line P size many word count read =
+      go (ltb 4096 (length text)) refl (ltb 999999 number) refl (same (field text 0) (ascii "feat")) (eqb (length (fields text)) (length sets + 1)) refl
+    where
+      go : (b : Bool) → ltb 4096 (length text) ≡ b → (c : Bool) → ltb 999999 number ≡ c → (d e : Bool) → eqb (length (fields text)) (length sets + 1) ≡ e →
+          P (cond b (refused 1 4096)
+          (cond c (refused 1 999999)
+          (elim d [
+            | false ↦ refused 9 0
+            | true ↦ elim e [ false ↦ refused 9 (length text) | true ↦ entered (valuesFrom (length (field text 0) + 1) sets (drop 1 (fields text))) ]
+          ])))
+      go true p c q d e r = size
+      go false p true q d e r = many
+      go false p false q false e r = word
+      go false p false q true false r = count
+      go false p false q true true r = read (ltb-false _ _ p) (ltb-false _ _ q) (eqb-true _ _ r)
+
   -- what is known of the line by what it comes to
   abbrev Known : Entered → Type 0
   Known (refused n p) = Unit {0}
   Known (entered vs) = (length text ≤ 4096) × (number ≤ 999999) × Conform sets vs
 
-  fields-known : length text ≤ 4096 → number ≤ 999999 → Known (fieldsEntered sets text)
-  unfolding fieldsEntered
-  fields-known h k = go (eqb (length (fields text)) (length sets + 1)) refl
-    where
-      go : (b : Bool) → eqb (length (fields text)) (length sets + 1) ≡ b →
-          Known (elim b [ false ↦ refused 9 (length text) | true ↦ entered (valuesFrom (length (field text 0) + 1) sets (drop 1 (fields text))) ])
-      go false e = tt
-      go true e =
-          let n : length (fields text) ≡ length sets + 1 = eqb-true _ _ e in
-          (h, k, values-conform (length (field text 0) + 1) sets (drop 1 (fields text)) (omega (arith, length-drop 1 (fields text), n)))
-
   line-known : Known (enteredOf sets number text)
-  unfolding enteredOf
-  line-known = go (ltb 4096 (length text)) refl (ltb 999999 number) refl (same (field text 0) (ascii "feat"))
-    where
-      go : (b : Bool) → ltb 4096 (length text) ≡ b → (c : Bool) → ltb 999999 number ≡ c → (d : Bool) →
-          Known (cond b (refused 1 4096) (cond c (refused 1 999999) (elim d [ false ↦ refused 9 0 | true ↦ fieldsEntered sets text ])))
-      go true e c f d = tt
-      go false e true f d = tt
-      go false e false f false = tt
-      go false e false f true = fields-known (ltb-false _ _ e) (ltb-false _ _ f)
+  line-known =
+      by-line Known tt tt tt tt
+      (λ h k n. (h, k, values-conform (length (field text 0) + 1) sets (drop 1 (fields text)) (omega (arith, length-drop 1 (fields text), n))))
 
   -- ---- the theorems
 

@@ -3,7 +3,7 @@ use mathlib.Core.Path.{_≡_, refl, subst}
 use mathlib.Core.Bool.{Bool, true, false, cond}
 use mathlib.Core.List.{List, [], _∷_}
 use Prim.Native.Nat.{ℕ, _+_, _-_}
-use lib.Dec.{eqb, ltb, leb}
+use lib.Dec.{leb}
 use lib.ListN.{length, drop}
 use Rattle.lexer.specs.Bytes.{same, ascii, begins}
 use Rattle.lexer.proofs.Law.Runs.{by-test}
@@ -13,9 +13,10 @@ use Rattle.value.specs.Value.{kindOf, span}
 use Rattle.value.specs.declared.value.Value.{Value}
 use Rattle.text.specs.Parts.{fields, field, parted}
 use Rattle.feature.specs.Field.{Numbers, wrong, all, made, numbersIn, numbersOf, stringOf, filledOf, fieldOf, conformed}
-use Rattle.feature.specs.Feature.{Values, complete, broken, with, onward, valuesFrom, Entered, refused, entered, fieldsEntered, enteredOf}
+use Rattle.feature.specs.Feature.{Values, complete, broken, with, onward, valuesFrom, Entered, refused, entered, enteredOf}
 use Rattle.feature.specs.declared.field.Field.{Field}
 use Rattle.feature.specs.declared.field.Field.the-variants as read
+use Rattle.feature.proofs.Conforming.{by-line}
 
 abbrev pub Own : Value → Type 0
 Own v = span v .literal ≡ false
@@ -82,18 +83,7 @@ OwnEntered (refused n p) = Unit {0}
 OwnEntered (entered vs) = OwnValues vs
 
 line-own : (sets : List Kinds) (number : ℕ) (text : List ℕ) → OwnEntered (enteredOf sets number text)
-unfolding enteredOf fieldsEntered
-line-own sets number text =
-    by-test OwnEntered (ltb 4096 (length text)) (λ _. tt) (λ _. by-test OwnEntered (ltb 999999 number) (λ _. tt) (λ _. go (same (field text 0) (ascii "feat")) (eqb (length (fields text)) (length sets + 1))))
-  where
-    go : (b c : Bool) →
-        OwnEntered (elim b [
-          | false ↦ refused 9 0
-          | true ↦ elim c [ false ↦ refused 9 (length text) | true ↦ entered (valuesFrom (length (field text 0) + 1) sets (drop 1 (fields text))) ]
-        ])
-    go false c = tt
-    go true false = tt
-    go true true = values-own (length (field text 0) + 1) sets (drop 1 (fields text))
+line-own sets number text = by-line sets number text OwnEntered tt tt tt tt (λ h k n. values-own (length (field text 0) + 1) sets (drop 1 (fields text)))
 
 pub read-own : (sets : List Kinds) (number : ℕ) (text : List ℕ) (vs : List Value) → enteredOf sets number text ≡ entered (complete vs) → AllOwn vs
 read-own sets number text vs e = subst OwnEntered e (line-own sets number text)

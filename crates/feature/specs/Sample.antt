@@ -82,6 +82,6 @@ abbrev pub chosenFrom : ℕ → List Given → List Value
 chosenFrom at [] = []
 chosenFrom at (g ∷ gs) = chosenAt at g ∷ chosenFrom (at + length (textOf g) + 1) gs
 
--- what may stand in a line of a text: a byte that is no LF
+-- what may stand in one of the "Text lines, each ended by LF": a byte that is no LF
 abbrev pub isLineByte : ℕ → Bool
 isLineByte b = ltb b 256 && not (eqb b 10)

@@ -1,4 +1,4 @@
--- Bytes on a page.
+-- Bytes on a page, one behind the other: what lines are written by (page 01, "Refusal numbers": "writes its line at the front").
 use mathlib.Core.Bool.{cond}
 use mathlib.Core.List.{List, [], _∷_}
 use Prim.Native.Nat.{ℕ, _+_}

@@ -4,14 +4,12 @@ use mathlib.Core.Path.{_≡_, refl, sym, _∙_, ap}
 use mathlib.Core.Bool.{Bool, true, false, cond, _||_, false≢true}
 use mathlib.Core.List.{List, [], _∷_, map}
 use mathlib.Core.Logic.{_↔_, _⊎_, inl, inr}
-use Prim.Native.Nat.{ℕ, _+_, _<_, _≤_}
+use Prim.Native.Nat.{ℕ, _<_, _≤_}
 use native.Mathlib.Omega.{arith}
 use borrow.Author.Tests.{le-ltb, ltb-true, ltb-false}
-use lib.Dec.{T, eqb, ltb}
-use lib.ListN.{length, drop}
-use Rattle.lexer.specs.Bytes.{same, ascii}
+use lib.Dec.{T, ltb}
+use lib.ListN.{length}
 use Rattle.lexer.specs.Tokens.{Placed}
-use Rattle.lexer.proofs.Law.Runs.{by-test}
 use Rattle.kind.specs.declared.set.Kinds.{Kinds}
 use Rattle.colour.specs.declared.colour.Colour.{Colour}
 use Rattle.value.specs.declared.value.Value.{Value}
@@ -25,7 +23,7 @@ use Rattle.checker.specs.declared.check.Verdict.the-variants as verdict
 use Rattle.checker.specs.declared.check.Wanted.{Wanted}
 use Rattle.checker.specs.declared.check.Wanted.the-variants as wanted
 use Rattle.evaluator.specs.Demand.{plain, fails}
-use Rattle.text.specs.Parts.{lines, fields, field}
+use Rattle.text.specs.Parts.{lines}
 use Rattle.style.specs.Style.{Expression, Condition, Style, empty, kindsIn}
 use Rattle.style.specs.Expression.{expressionOf}
 use Rattle.style.specs.Expression as judged
@@ -38,7 +36,8 @@ use Rattle.style.specs.declared.tables.Tables.{Tables}
 use Rattle.style.proofs.Accepted.{accepted-stand}
 use Rattle.style.proofs.Law.Ladder.{passed}
 use Rattle.style.proofs.Law.Loop.{isAccepted}
-use Rattle.feature.specs.Feature.{Values, Entered, refused, entered, complete, broken, valuesFrom, fieldsEntered, enteredOf}
+use Rattle.feature.specs.Feature.{Values, Entered, refused, entered, complete, broken, enteredOf}
+use Rattle.feature.proofs.Conforming.{by-line}
 use Rattle.output.specs.Line.{paintedLine}
 use Rattle.output.specs.declared.line.Colouring.{Colouring}
 use Rattle.output.specs.declared.line.Colouring.the-variants.{None, Of}
@@ -89,19 +88,7 @@ data OneOrNine : Entered → Type 0 where
   neither : (vs : Values) → OneOrNine (entered vs)
 
 refused-numbers : (sets : List Kinds) (number : ℕ) (text : List ℕ) → OneOrNine (enteredOf sets number text)
-unfolding enteredOf fieldsEntered
-refused-numbers sets number text =
-    by-test OneOrNine (ltb 4096 (length text)) (λ _. one 4096)
-    (λ _. by-test OneOrNine (ltb 999999 number) (λ _. one 999999) (λ _. go (same (field text 0) (ascii "feat")) (eqb (length (fields text)) (length sets + 1))))
-  where
-    go : (b c : Bool) →
-        OneOrNine (elim b [
-          | false ↦ refused 9 0
-          | true ↦ elim c [ false ↦ refused 9 (length text) | true ↦ entered (valuesFrom (length (field text 0) + 1) sets (drop 1 (fields text))) ]
-        ])
-    go false c = nine 0
-    go true false = nine (length text)
-    go true true = neither (valuesFrom (length (field text 0) + 1) sets (drop 1 (fields text)))
+refused-numbers sets number text = by-line sets number text OneOrNine (one 4096) (one 999999) (nine 0) (nine (length text)) (λ h k n. neither _)
 
 abbrev isComplete : Entered → Bool
 isComplete (refused n p) = false

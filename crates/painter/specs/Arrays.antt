@@ -1,4 +1,5 @@
--- What a style gives a feature, as tables and room hold the style and arrays the feature's values: the same as `Meaning` says, where they hold what a head and a line have given, and defined for any other too.
+-- What a style gives a feature, as tables and room hold the style and arrays the feature's values: page 01, "Kinds and meaning" and "Refusal numbers". Where they hold what a head and a line have given it is what `Meaning`
+-- and `Paint` say, which is a theorem; it is defined for any others too.
 use mathlib.Core.Bool.{Bool, true, cond}
 use mathlib.Core.List.{List}
 use Prim.Native.Nat.{ℕ, zero, suc, _+_, _*_}
