@@ -30,7 +30,6 @@ use Rattle.evaluator.proofs.Law.Variables.{each-variable, every-variable}
 use Rattle.style.specs.Style.{Declared, Define, Style, propertyIn, isAmong, defineName, definedIn, kindsIn}
 use Rattle.style.specs.Expression.{Judgement, byKinds, expressionOf}
 use Rattle.style.specs.Expression as judged
-use Rattle.style.specs.Head.{refusedAt, headOf}
 use Rattle.feature.specs.Feature.{enteredOf, AllOf}
 use Rattle.feature.specs.Sample.{absent, null, sample, Given, given, textOf, chosenAt, lineFor, chosenFrom}
 use Rattle.feature.specs.Sample as sampled
@@ -38,9 +37,10 @@ use Rattle.feature.proofs.Samples.{sample-kind, sample-read, sample-line}
 use Rattle.feature.proofs.Conforming.{entered-conform}
 use Rattle.painter.specs.Meaning.{propertyValue}
 use Rattle.painter.specs.Paint.{declaredKinds, schemaOf}
-use Rattle.painter.specs.Demand.{ReadsAs, Reached, NoDefine, SomeLineFails}
+use Rattle.painter.specs.Demand.{ReadsAs, RefusedAs, Passes, NoDefine, SomeLineFails}
 use Rattle.painter.proofs.Sound.{values-conform}
-use Rattle.painter.proofs.Origins.{IsDeclared, AllDeclared, head-refused, given-whole}
+use Rattle.painter.proofs.Origins.{IsDeclared, AllDeclared, Whole, given-whole, reached-schema}
+use Rattle.painter.proofs.Order.{conforms-reads}
 
 -- ---- the worst feature
 
@@ -88,16 +88,16 @@ worst-values at (d ∷ ds) a x = go (same x (d .name)) (worst-values next ds (a 
     go true h = given-worst at (d .property) (a .0)
     go false h = h
 
-worst-read : (s : Style) (a : AllDeclared (s .properties)) → length (s .properties) ≤ 32 → ReadsAs s (lineFor (worstOf (s .properties) a)) (chosenFrom 5 (worstOf (s .properties) a))
+worst-read : (s : Style) (a : AllDeclared (s .properties)) → length (s .properties) ≤ 32 → ReadsAs s 1 (lineFor (worstOf (s .properties) a)) (chosenFrom 5 (worstOf (s .properties) a))
 worst-read s a few =
     let gs = worstOf (s .properties) a in
     let short : length gs ≤ 32 = omega (arith, worst-length (s .properties) a) in
-    (1, ap (λ (ks : List Kinds). enteredOf ks 1 (lineFor gs)) (sym (worst-kinds (s .properties) a)) ∙ sample-read gs short 1 (omega arith))
+    ap (λ (ks : List Kinds). enteredOf ks 1 (lineFor gs)) (sym (worst-kinds (s .properties) a)) ∙ sample-read gs short 1 (omega arith)
 
 -- ---- a feature that conforms
 
-pub reads-conform : (s : Style) (feature : List ℕ) (vs : List Value) → ReadsAs s feature vs → AllOf (schemaOf s) vs
-reads-conform s feature vs (n, e) = entered-conform (schemaOf s) n feature vs e
+pub reads-conform : (s : Style) (number : ℕ) (feature : List ℕ) (vs : List Value) → ReadsAs s number feature vs → AllOf (schemaOf s) vs
+reads-conform s number feature vs e = entered-conform (schemaOf s) number feature vs e
 
 -- ---- names
 
@@ -132,49 +132,49 @@ by-syntax : (look : List ℕ → Kinds) (want : Wanted) (text : List ℕ) (tree 
 unfolding expressionOf
 by-syntax look want text tree h = rw h (by-kinds (checker.resultOf want (length text) (checker.kindsOf (λ p n. look (nameAt text p)) tree)) text tree)
 
--- ---- the theorems
+-- ---- an expression that passes the checks before its 7
 
-module _ (c : Scope) (want : Wanted) (s : Style) (text : List ℕ) (tree : Tree) (is-judged : judgedOf text ≡ fine tree) (is-plain : T (plain tree)) (none : NoDefine c s text tree) where
+module _ (head : List ℕ) (small : length head ≤ 32768) (n : ℕ) (s : Style) (c : Scope) (want : Wanted) (text : List ℕ) (x : Passes head n s c want text) (is-plain : T (plain (x .tree)))
+    (none : NoDefine c s text (x .tree)) where
+  whole : Whole s
+  whole = given-whole (x .reached .stands .before) s (x .reached .stands .given)
+
   -- each name stands for its property
-  looked : Variables (λ p n. kindsIn c s (nameAt text p) ≡ propertyKinds (propertyIn (s .properties) (nameAt text p))) tree
-  looked = stand-for c s text tree none
+  looked : Variables (λ p n. kindsIn c s (nameAt text p) ≡ propertyKinds (propertyIn (s .properties) (nameAt text p))) (x .tree)
+  looked = stand-for c s text (x .tree) none
 
-  pub exactly : length (s .properties) ≤ 32 → AllDeclared (s .properties) →
-      ((p : ℕ) × (expressionOf (kindsIn c s) want text ≡ judged.refused 7 p))
-      ↔ SomeLineFails s want text tree
-  exactly few a = (
+  abbrev look : ℕ → ℕ → Kinds
+  look p n = kindsIn c s (nameAt text p)
+
+  refused-by : ((p : ℕ) × (expressionOf (kindsIn c s) want text ≡ judged.refused 7 p)) ↔ T (isRefused (checker.resultOf want (length text) (checker.kindsOf look (x .tree))))
+  refused-by = by-syntax (kindsIn c s) want text (x .tree) (x .is)
+
+  -- the worst feature
+  abbrev line : List ℕ
+  line = lineFor (worstOf (s .properties) (whole .declared))
+
+  abbrev values : List Value
+  values = chosenFrom 5 (worstOf (s .properties) (whole .declared))
+
+  reads : ReadsAs s 1 line values
+  reads = worst-read s (whole .declared) (whole .few)
+
+  -- It is refused with 7, and its head with it, exactly if some feature that conforms makes it fail by itself.
+  pub refused-exactly : ((p : ℕ) × RefusedAs head 7 n p s c want text) ↔ SomeLineFails head s want text (x .tree)
+  refused-exactly = (
     (λ r. record {
+      number = 1;
       feature = line;
-      values = vs;
-      is-line = sample-line (worstOf (s .properties) a);
-      reads = worst-read s a few;
+      is-line = sample-line (worstOf (s .properties) (whole .declared));
+      conforms = conforms-reads head small s (reached-schema head n s c want text (x .reached)) 1 line .1 (values, reads);
+      values = values;
+      reads = reads;
       failing =
-          evaluator.worst-fails (λ p n. nameAt text p) (propertyIn (s .properties)) (textIn text line) (literalAt text) (literal-kind text) look tree is-plain looked want (length text)
-          (propertyValue (s .properties) vs) (every-variable (λ p n. worst-values 5 (s .properties) a (nameAt text p)) tree) (refused .0 r);
+          evaluator.worst-fails (λ p n. nameAt text p) (propertyIn (s .properties)) (textIn text line) (literalAt text) (literal-kind text) look (x .tree) is-plain looked want (length text)
+          (propertyValue (s .properties) values) (every-variable (λ p n. worst-values 5 (s .properties) (whole .declared) (nameAt text p)) (x .tree)) (refused-by .0 (r .0, r .1 .refused));
     }),
-    (λ w. refused .1
-        (evaluator.exactly (λ p n. nameAt text p) (propertyIn (s .properties)) (textIn text (w .feature)) (literalAt text) (literal-kind text) look tree is-plain looked want (length text) .1
-        (propertyValue (s .properties) (w .values), values-conform (s .properties) (w .values) (reads-conform s (w .feature) (w .values) (w .reads)), w .failing))),
+    (λ w. let r = refused-by .1
+        (evaluator.exactly (λ p n. nameAt text p) (propertyIn (s .properties)) (textIn text (w .feature)) (literalAt text) (literal-kind text) look (x .tree) is-plain looked want (length text) .1
+        (propertyValue (s .properties) (w .values), values-conform (s .properties) (w .values) (reads-conform s (w .number) (w .feature) (w .values) (w .reads)), w .failing)) in
+        (r .0, record { reached = x .reached; refused = r .1 })),
   )
-    where
-      look : ℕ → ℕ → Kinds
-      look p n = kindsIn c s (nameAt text p)
-
-      refused : ((p : ℕ) × (expressionOf (kindsIn c s) want text ≡ judged.refused 7 p)) ↔ T (isRefused (checker.resultOf want (length text) (checker.kindsOf look tree)))
-      refused = by-syntax (kindsIn c s) want text tree is-judged
-
-      line : List ℕ
-      line = lineFor (worstOf (s .properties) a)
-
-      vs : List Value
-      vs = chosenFrom 5 (worstOf (s .properties) a)
-
--- A head is refused by 7 for such an expression, at its line, exactly if some feature that conforms makes it fail by itself.
-pub refused-exactly : (head : List ℕ) (n : ℕ) (s : Style) (c : Scope) (want : Wanted) (text : List ℕ) (tree : Tree) → Reached head n s c want text → judgedOf text ≡ fine tree →
-    T (plain tree) → NoDefine c s text tree →
-    ((p : ℕ) × (headOf head ≡ refusedAt 7 n p) × (expressionOf (kindsIn c s) want text ≡ judged.refused 7 p))
-    ↔ SomeLineFails s want text tree
-refused-exactly head n s c want text tree st j t none =
-    let whole = given-whole (st .stands .before) s (st .stands .given) in
-    let e = exactly c want s text tree j t none (whole .few) (whole .declared) in
-    ((λ r. e .0 (r .0, r .2)), (λ w. let r = e .1 w in (r .0, head-refused head n s c want text st 7 (r .0) (r .1), r .1)))

@@ -1,3 +1,5 @@
+pub mod Order
+pub mod NoColour
 pub mod Sound
 pub mod Origins
 pub mod Judged

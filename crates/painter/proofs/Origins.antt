@@ -1,19 +1,20 @@
 -- Where a head's refusal comes from: a line's own number 8, or an expression that stands there. And what the lines before an expression declare.
 use mathlib.Core.Path.{_≡_, refl, sym, _∙_, ap, ap₂, subst}
 use mathlib.Core.Bool.{Bool, true, false, cond, _&&_, false≢true, true≢false}
-use mathlib.Core.List.{List, [], _∷_, _++_, map, append-assoc}
+use mathlib.Core.List.{List, [], _∷_, _++_, map, append-nil, append-assoc}
 use mathlib.Core.Logic.{_↔_, _⊎_, inl, inr}
 use Prim.Native.Nat.{ℕ, suc, _+_, _≤_}
 use native.Mathlib.Omega.{arith}
 use borrow.Author.Tests.{eqb-true, eq-eqb, ltb-true}
 use lib.Dec.{eqb, ltb}
-use lib.ListN.{length, length-append}
+use lib.ListN.{length, take, length-append}
 use Rattle.lexer.proofs.Law.Runs.{by-test}
 use Rattle.kind.specs.declared.kind.Kind.{Kind}
 use Rattle.checker.specs.Property.{Property, undeclared, declared}
 use Rattle.checker.specs.declared.name.Scope.{Scope}
 use Rattle.checker.specs.declared.check.Wanted.{Wanted}
-use Rattle.text.specs.Parts.{lines, fields, field, fieldStart}
+use Rattle.text.specs.Parts.{lines, bytesOf, fields, field, fieldStart}
+use Rattle.text.proofs.Law.Parts.{lines-front}
 use Rattle.text.specs.Word.{lineOf, typeOf, flagsOf}
 use Rattle.text.specs.declared.word.Line.{Line}
 use Rattle.text.specs.declared.word.Line.the-variants as word
@@ -27,10 +28,10 @@ use Rattle.style.specs.Expression.{Judgement, expressionOf}
 use Rattle.style.specs.Expression as judged
 use Rattle.style.specs.Line.{Said, refused, adds, counted, isNew, onExpression, onType, onFlags, propertyLine, defineLine, showLine, colourLine, conditionLine, lineBy, lineSaid}
 use Rattle.style.specs.Head.{Headed, refusedAt, gives, onLine, headFrom, headOf}
-use Rattle.style.proofs.Law.Ladder.{taken, both}
+use Rattle.style.proofs.Law.Ladder.{taken, passed, both}
 use Rattle.style.proofs.Law.Lines.{on-refused, on-accepted}
 use Rattle.style.proofs.Law.Loop.{styleIn, isGiven}
-use Rattle.painter.specs.Demand.{Asks, define, show, color, condition, colour, propertiesOf, Refused, Reached}
+use Rattle.painter.specs.Demand.{isProperty, propertyLines, schemaText, propertiesOf, Asks, define, show, color, condition, colour, Refused, Reached, RefusedAs}
 
 -- ---- an expression that is refused refuses its line
 
@@ -80,9 +81,10 @@ refused-by head m n p r =
     ∙ behind (st .before) (r .line ∷ st .after) 1 empty (r .style) (st .given)
     ∙ ap₂ (λ (k : ℕ) said. onLine k said (λ x. headFrom (suc (1 + length (st .before))) (with (r .style) x) (st .after))) k (r .said)
 
-pub head-refused : (head : List ℕ) (n : ℕ) (s : Style) (c : Scope) (want : Wanted) (text : List ℕ) → Reached head n s c want text → (m p : ℕ) →
-    expressionOf (kindsIn c s) want text ≡ judged.refused m p → headOf head ≡ refusedAt m n p
-head-refused head n s c want text st m p h = refused-by head m n p (record { style = s; line = st .line; stands = st .stands; said = asks-refused (st .asks) m p h })
+pub head-refused : (head : List ℕ) (m n p : ℕ) (s : Style) (c : Scope) (want : Wanted) (text : List ℕ) → RefusedAs head m n p s c want text → headOf head ≡ refusedAt m n p
+head-refused head m n p s c want text r =
+    let at = r .reached in
+    refused-by head m n p (record { style = s; line = at .line; stands = at .stands; said = asks-refused (at .asks) m p (r .refused) })
 
 -- ---- what is declared
 
@@ -105,22 +107,22 @@ declared-more : (ds : List Declared) (d : Declared) → AllDeclared ds → IsDec
 declared-more [] d a h = (h, tt)
 declared-more (x ∷ ds) d a h = (a .0, declared-more ds d (a .1) h)
 
--- a property stands only where its word may
-abbrev InOrder : Style → Entry → Type 0
-InOrder s (entry.property d) = admitsTo s word.Prop ≡ true
-InOrder s (entry.define d) = Unit {0}
-InOrder s (entry.show e) = Unit {0}
-InOrder s (entry.colour e) = Unit {0}
-InOrder s (entry.condition c) = Unit {0}
+-- the word of the line that adds an entry
+abbrev wordOf : Entry → Line
+wordOf (entry.property d) = word.Prop
+wordOf (entry.define d) = word.Define
+wordOf (entry.show e) = word.Show
+wordOf (entry.colour e) = word.Color
+wordOf (entry.condition c) = word.Cond
 
 -- ---- a line
 
 module _ (s : Style) (line : List ℕ) where
-  -- it is refused by 8, or as one of its expressions is, or what it adds leaves a style whole
+  -- it is refused by 8, or as one of its expressions is, or it has the word of what it adds, which may stand there and leaves a style whole
   data Told : Said → Type 0 where
     eight : (p : ℕ) → Told (refused 8 p)
     its : {c : Scope} {want : Wanted} {text : List ℕ} {m p : ℕ} → Asks s line c want text → expressionOf (kindsIn c s) want text ≡ judged.refused m p → Told (refused m p)
-    goes : {x : Entry} → (Whole s → Whole (with s x)) → InOrder s x → Told (adds x)
+    goes : {x : Entry} → lineOf (field line 0) ≡ wordOf x → admitsTo s (wordOf x) ≡ true → (Whole s → Whole (with s x)) → Told (adds x)
 
   tested : (t : Bool) {said : Said} (p : ℕ) → (t ≡ true → Told said) → Told (cond t said (refused 8 p))
   tested t p f = by-test Told t f (λ _. eight p)
@@ -136,14 +138,14 @@ module _ (s : Style) (line : List ℕ) where
       go (judged.refused m p) h = its a h
       go (judged.accepted e) h = f e h
 
-  on-flags : (f : Flags) (p : ℕ) (name : List ℕ) (t : Kind) → admitsTo s word.Prop ≡ true → Told (onFlags f p name t)
+  on-flags : (f : Flags) (p : ℕ) (name : List ℕ) (t : Kind) → lineOf (field line 0) ≡ word.Prop → admitsTo s word.Prop ≡ true → Told (onFlags f p name t)
   unfolding admits
-  on-flags flags.Unknown p name t ok = eight p
-  on-flags (flags.Known a n) p name t ok =
+  on-flags flags.Unknown p name t w ok = eight p
+  on-flags (flags.Known a n) p name t w ok =
       let room = ltb-true (length (s .properties)) 32 (both (ltb (length (s .properties)) 32) _ ok .0) in
       let d : Declared = record { name = name; property = declared t a n } in
       let short : length (s .properties ++ d ∷ []) ≤ 32 = omega (arith, room, length-append (s .properties) (d ∷ [])) in
-      goes (λ h. record { few = short; declared = declared-more (s .properties) d (h .declared) tt; apart = h .apart }) ok
+      goes w ok (λ h. record { few = short; declared = declared-more (s .properties) d (h .declared) tt; apart = h .apart })
 
   on-type : (f : TypeName) (p : ℕ) (k : Kind → Said) → ((t : Kind) → Told (k t)) → Told (onType f p k)
   on-type type.Unknown p k g = eight p
@@ -161,12 +163,12 @@ module _ (s : Style) (line : List ℕ) where
   unfolding propertyLine defineLine showLine colourLine conditionLine
   by-line word.Prop w ok =
       on-count 4 (λ n. tested (isNew (map nameOf (s .properties)) (field line 1)) (fieldStart line 1)
-      (λ new. on-type (typeOf (field line 2)) (fieldStart line 2) _ (λ t. on-flags (flagsOf (field line 3)) (fieldStart line 3) (field line 1) t ok)))
+      (λ new. on-type (typeOf (field line 2)) (fieldStart line 2) _ (λ t. on-flags (flagsOf (field line 3)) (fieldStart line 3) (field line 1) t w ok)))
   by-line word.Define w ok =
-      on-count 3 (λ n. tested (isNew (map defineName (s .defines)) (field line 1)) (fieldStart line 1) (λ new. on-expression _ (define w ok n new) (λ e h. goes (λ x. record { few = x .few; declared = x .declared; apart = x .apart }) tt)))
-  by-line word.Show w ok = on-count 2 (λ n. on-expression _ (show w ok n) (λ e h. goes (λ x. record { few = x .few; declared = x .declared; apart = x .apart }) tt))
-  by-line word.Color w ok = on-count 2 (λ n. on-expression _ (color w ok n) (λ e h. goes (λ x. record { few = x .few; declared = x .declared; apart = inr (no-conditions ok) }) tt))
-  by-line word.Cond w ok = on-count 3 (λ n. on-expression _ (condition w ok n) (λ t h. on-expression _ (colour w ok n t h) (λ e h. goes (λ x. record { few = x .few; declared = x .declared; apart = inl (no-colours ok) }) tt)))
+      on-count 3 (λ n. tested (isNew (map defineName (s .defines)) (field line 1)) (fieldStart line 1) (λ new. on-expression _ (define w ok n new) (λ e h. goes w ok (λ x. record { few = x .few; declared = x .declared; apart = x .apart }))))
+  by-line word.Show w ok = on-count 2 (λ n. on-expression _ (show w ok n) (λ e h. goes w ok (λ x. record { few = x .few; declared = x .declared; apart = x .apart })))
+  by-line word.Color w ok = on-count 2 (λ n. on-expression _ (color w ok n) (λ e h. goes w ok (λ x. record { few = x .few; declared = x .declared; apart = inr (no-conditions ok) })))
+  by-line word.Cond w ok = on-count 3 (λ n. on-expression _ (condition w ok n) (λ t h. on-expression _ (colour w ok n t h) (λ e h. goes w ok (λ x. record { few = x .few; declared = x .declared; apart = inl (no-colours ok) }))))
   by-line word.Feat w ok = eight 0
   by-line word.Unknown w ok = eight 0
 
@@ -182,8 +184,7 @@ pub record Origin (head : List ℕ) (m n p : ℕ) : Type 0 where
   pub scope : Scope
   pub want : Wanted
   pub text : List ℕ
-  pub reached : Reached head n style scope want text
-  pub refused : expressionOf (kindsIn scope style) want text ≡ judged.refused m p
+  pub is : RefusedAs head m n p style scope want text
 
 abbrev numberSaid : Said → ℕ
 numberSaid (refused m p) = m
@@ -250,8 +251,7 @@ refused-origin head m n p r = go (lineSaid (r .style) (r .line)) (line-told (r .
           scope = c;
           want = want;
           text = text;
-          reached = record { line = r .line; stands = r .stands; asks = a };
-          refused = h ∙ (λ j. judged.refused (numberSaid (e j)) (placeSaid (e j)));
+          is = record { reached = record { line = r .line; stands = r .stands; asks = a }; refused = h ∙ (λ j. judged.refused (numberSaid (e j)) (placeSaid (e j))) };
         })
     go (adds x) told e = absurd (true≢false (ap isAdded e))
 
@@ -262,7 +262,7 @@ whole-from (l ∷ ls) k s a t h = go (lineSaid s l) (line-told s l) (λ x a. who
     go : (said : Said) → Told s l said → ((x : Entry) → Whole (with s x) → headFrom (suc k) (with s x) ls ≡ gives t → Whole t) →
         onLine k said (λ x. headFrom (suc k) (with s x) ls) ≡ gives t → Whole t
     go (refused m p) told rest h = absurd (false≢true (ap isGiven h))
-    go (adds x) (goes g o) rest h = rest x (g a) h
+    go (adds x) (goes w o g) rest h = rest x (g a) h
 
 pub given-whole : (ls : List (List ℕ)) (s : Style) → headFrom 1 empty ls ≡ gives s → Whole s
 given-whole ls s h = whole-from ls 1 empty (record { few = omega arith; declared = tt; apart = inl refl }) s h
@@ -296,45 +296,71 @@ stay (l ∷ ls) k s c t h = go (lineSaid s l) (line-told s l) (λ x c. stay ls (
     go : (said : Said) → Told s l said → ((x : Entry) → Shut (with s x) → headFrom (suc k) (with s x) ls ≡ gives t → t .properties ≡ with s x .properties) →
         onLine k said (λ x. headFrom (suc k) (with s x) ls) ≡ gives t → t .properties ≡ s .properties
     go (refused m p) told rest h = absurd (false≢true (ap isGiven h))
-    go (adds (entry.property d)) (goes g o) rest h = absurd (false≢true (sym c ∙ o))
+    go (adds (entry.property d)) (goes w o g) rest h = absurd (false≢true (sym c ∙ o))
     go (adds (entry.define d)) told rest h = rest (entry.define d) (later _ _ _ _ _ (λ a b c e. more (s .defines) d a)) h
     go (adds (entry.show e)) told rest h = rest (entry.show e) (later _ _ _ _ _ (λ a b c d. more (s .shows) e b)) h
     go (adds (entry.colour e)) told rest h = rest (entry.colour e) (later _ _ _ _ _ (λ a b c d. more (s .colours) e c)) h
     go (adds (entry.condition x)) told rest h = rest (entry.condition x) (later _ _ _ _ _ (λ a b c d. more (s .conditions) x d)) h
 
--- some first lines of a head give its properties and no more
-pub record Front (k : ℕ) (s : Style) (ls : List (List ℕ)) (t : Style) : Type 0 where
-  pub front : List (List ℕ)
-  pub back : List (List ℕ)
-  pub is : ls ≡ front ++ back
-  pub given : headFrom k s front ≡ gives (propertiesOf t)
+-- a line that is none of a property's ends those
+no-property : (l : List ℕ) (ls : List (List ℕ)) (w : Line) → lineOf (field l 0) ≡ w → isProperty w ≡ false → propertyLines (l ∷ ls) ≡ []
+no-property l ls w e h = passed _ (ap isProperty e ∙ h) refl
 
-front-from : (ls : List (List ℕ)) (k : ℕ) (s : Style) → s ≡ propertiesOf s → (t : Style) → headFrom k s ls ≡ gives t → Front k s ls t
-front-from [] k s a t h =
-    let e : s ≡ t = ap (λ x. styleIn x t) h in
-    record { front = []; back = []; is = refl; given = ap gives (a ∙ ap propertiesOf e) }
-front-from (l ∷ ls) k s a t h = go (lineSaid s l) refl (λ x a. front-from ls (suc k) (with s x) a t) h
+-- the lines of the properties give these and no more
+module _ (rest : List (List ℕ)) (none : propertyLines rest ≡ []) where
+  alone-from : (ls : List (List ℕ)) (k : ℕ) (s : Style) → s ≡ propertiesOf s → (t : Style) → headFrom k s ls ≡ gives t → headFrom k s (propertyLines (ls ++ rest)) ≡ gives (propertiesOf t)
+  alone-from [] k s a t h = ap (headFrom k s) none ∙ ap gives (a ∙ ap (λ x. propertiesOf (styleIn x t)) h)
+  alone-from (l ∷ ls) k s a t h = go (lineSaid s l) refl (line-told s l) (λ x a. alone-from ls (suc k) (with s x) a t) h
+    where
+      -- all lines behind one that adds something else
+      ends : (x : Entry) → lineOf (field l 0) ≡ wordOf x → isProperty (wordOf x) ≡ false → Shut (with s x) → with s x .properties ≡ s .properties →
+          headFrom (suc k) (with s x) ls ≡ gives t → headFrom k s (propertyLines (l ∷ (ls ++ rest))) ≡ gives (propertiesOf t)
+      ends x w i c same h =
+          ap (headFrom k s) (no-property l (ls ++ rest) (wordOf x) w i)
+          ∙ ap gives (a ∙ ap (λ ds. record { properties = ds; defines = []; shows = []; colours = []; conditions = [] }) (sym (stay ls (suc k) (with s x) c t h ∙ same)))
+
+      go : (said : Said) → lineSaid s l ≡ said → Told s l said →
+          ((x : Entry) → with s x ≡ propertiesOf (with s x) → headFrom (suc k) (with s x) ls ≡ gives t → headFrom (suc k) (with s x) (propertyLines (ls ++ rest)) ≡ gives (propertiesOf t)) →
+          onLine k said (λ x. headFrom (suc k) (with s x) ls) ≡ gives t → headFrom k s (propertyLines (l ∷ (ls ++ rest))) ≡ gives (propertiesOf t)
+      go (refused m p) e told onward h = absurd (false≢true (ap isGiven h))
+      go (adds (entry.property d)) e (goes w o g) onward h =
+          ap (headFrom k s) (taken [] (ap isProperty w) refl)
+          ∙ ap (λ said. onLine k said (λ x. headFrom (suc k) (with s x) (propertyLines (ls ++ rest)))) e
+          ∙ onward (entry.property d) (ap (λ (s : Style). with s (entry.property d)) a) h
+      go (adds (entry.define d)) e (goes w o g) onward h = ends (entry.define d) w refl (later _ _ _ _ _ (λ a b c e. more (s .defines) d a)) refl h
+      go (adds (entry.show x)) e (goes w o g) onward h = ends (entry.show x) w refl (later _ _ _ _ _ (λ a b c d. more (s .shows) x b)) refl h
+      go (adds (entry.colour x)) e (goes w o g) onward h = ends (entry.colour x) w refl (later _ _ _ _ _ (λ a b c d. more (s .colours) x c)) refl h
+      go (adds (entry.condition x)) e (goes w o g) onward h = ends (entry.condition x) w refl (later _ _ _ _ _ (λ a b c d. more (s .conditions) x d)) refl h
+
+first-lines : (ls : List (List ℕ)) → take (length (propertyLines ls)) ls ≡ propertyLines ls
+first-lines [] = refl
+first-lines (l ∷ ls) = go (isProperty (lineOf (field l 0))) (first-lines ls)
   where
-    -- all lines behind one that adds something else
-    none : (x : Entry) → Shut (with s x) → with s x .properties ≡ s .properties → headFrom (suc k) (with s x) ls ≡ gives t → Front k s (l ∷ ls) t
-    none x c same h =
-        record { front = []; back = l ∷ ls; is = refl; given = ap gives (a ∙ ap (λ ds. record { properties = ds; defines = []; shows = []; colours = []; conditions = [] }) (sym (stay ls (suc k) (with s x) c t h ∙ same))) }
+    go : (b : Bool) → take (length (propertyLines ls)) ls ≡ propertyLines ls → take (length (cond b (l ∷ propertyLines ls) [])) (l ∷ ls) ≡ cond b (l ∷ propertyLines ls) []
+    go true h = ap (λ (r : List (List ℕ)). l ∷ r) h
+    go false h = refl
 
-    go : (said : Said) → lineSaid s l ≡ said → ((x : Entry) → with s x ≡ propertiesOf (with s x) → headFrom (suc k) (with s x) ls ≡ gives t → Front (suc k) (with s x) ls t) →
-        onLine k said (λ x. headFrom (suc k) (with s x) ls) ≡ gives t → Front k s (l ∷ ls) t
-    go (refused m p) e rest h = absurd (false≢true (ap isGiven h))
-    go (adds (entry.property d)) e rest h =
-        let f = rest (entry.property d) (ap (λ (s : Style). with s (entry.property d)) a) h in
-        record {
-          front = l ∷ f .front;
-          back = f .back;
-          is = ap (λ ls. l ∷ ls) (f .is);
-          given = ap (λ said. onLine k said (λ x. headFrom (suc k) (with s x) (f .front))) e ∙ f .given;
-        }
-    go (adds (entry.define d)) e rest h = none (entry.define d) (later _ _ _ _ _ (λ a b c e. more (s .defines) d a)) refl h
-    go (adds (entry.show x)) e rest h = none (entry.show x) (later _ _ _ _ _ (λ a b c d. more (s .shows) x b)) refl h
-    go (adds (entry.colour x)) e rest h = none (entry.colour x) (later _ _ _ _ _ (λ a b c d. more (s .colours) x c)) refl h
-    go (adds (entry.condition x)) e rest h = none (entry.condition x) (later _ _ _ _ _ (λ a b c d. more (s .conditions) x d)) refl h
+module _ (head : List ℕ) where
+  schema-lines : lines (schemaText head) ≡ propertyLines (lines head)
+  schema-lines =
+      let first = first-lines (lines head) in
+      ap (λ ls. lines (take (bytesOf ls) head)) (sym first) ∙ lines-front head (length (propertyLines (lines head))) ∙ first
 
-pub properties-first : (ls : List (List ℕ)) (s : Style) → headFrom 1 empty ls ≡ gives s → Front 1 empty ls s
-properties-first ls s h = front-from ls 1 empty refl s h
+  -- so does a head's first text, whatever is behind the lines that give a style and begins with no property
+  schema-of : (before rest : List (List ℕ)) (s : Style) → lines head ≡ before ++ rest → headFrom 1 empty before ≡ gives s → propertyLines rest ≡ [] → headOf (schemaText head) ≡ gives (propertiesOf s)
+  unfolding headOf
+  schema-of before rest s is g none = ap (headFrom 1 empty) (schema-lines ∙ ap propertyLines is) ∙ alone-from rest none before 1 empty refl s g
+
+  pub given-schema : (s : Style) → headOf head ≡ gives s → headOf (schemaText head) ≡ gives (propertiesOf s)
+  unfolding headOf
+  given-schema s g = schema-of (lines head) [] s (sym (append-nil (lines head))) g refl
+
+  pub reached-schema : (n : ℕ) (s : Style) (c : Scope) (want : Wanted) (text : List ℕ) → Reached head n s c want text → headOf (schemaText head) ≡ gives (propertiesOf s)
+  reached-schema n s c want text r = schema-of (r .stands .before) (r .line ∷ r .stands .after) s (r .stands .is) (r .stands .given) (go (r .asks))
+    where
+      go : {c : Scope} {want : Wanted} {text : List ℕ} → Asks s (r .line) c want text → propertyLines (r .line ∷ r .stands .after) ≡ []
+      go (define w ok n new) = no-property (r .line) (r .stands .after) word.Define w refl
+      go (show w ok n) = no-property (r .line) (r .stands .after) word.Show w refl
+      go (color w ok n) = no-property (r .line) (r .stands .after) word.Color w refl
+      go (condition w ok n) = no-property (r .line) (r .stands .after) word.Cond w refl
+      go (colour w ok n test a) = no-property (r .line) (r .stands .after) word.Cond w refl

@@ -1,15 +1,16 @@
 -- What the three demands speak of: page 01, "Refusal numbers", "Kinds and meaning" and "What each answer owes".
 use mathlib.Core.Path.{_≡_}
-use mathlib.Core.Bool.{true, false, cond}
+use mathlib.Core.Bool.{Bool, true, false, cond}
 use mathlib.Core.List.{List, [], _∷_, _++_, map}
 use Prim.Native.Nat.{ℕ, suc}
 use lib.Dec.{T}
-use lib.ListN.{length}
+use lib.ListN.{length, take}
 use Rattle.lexer.specs.Spelling.{All}
 use Rattle.value.specs.Value.{textIn}
 use Rattle.value.specs.declared.apply.Outcome.{Outcome}
 use Rattle.value.specs.declared.value.Value.{Value}
 use Rattle.tree.specs.Tree.{Tree}
+use Rattle.syntax.specs.Judge.{fine, judgedOf}
 use Rattle.checker.specs.Name.{nameAt}
 use Rattle.checker.specs.declared.name.Scope.{Scope}
 use Rattle.checker.specs.declared.name.Scope.the-variants as scope
@@ -18,18 +19,19 @@ use Rattle.checker.specs.declared.check.Wanted.the-variants as wanted
 use Rattle.evaluator.specs.Literal.{literalAt}
 use Rattle.evaluator.specs.Eval.{evalOf}
 use Rattle.evaluator.specs.Demand.{Variables, fails}
-use Rattle.text.specs.Parts.{lines, fields, field}
+use Rattle.text.specs.Parts.{lines, bytesOf, fields, field}
 use Rattle.text.specs.Word.{lineOf}
+use Rattle.text.specs.declared.word.Line.{Line}
 use Rattle.text.specs.declared.word.Line.the-variants as word
 use Rattle.style.specs.Style.{Expression, Condition, Style, empty, admitsTo, isAmong, defineName, kindsIn}
 use Rattle.style.specs.Expression.{expressionOf}
 use Rattle.style.specs.Expression as judged
 use Rattle.style.specs.Line.{isNew, refused, lineSaid}
-use Rattle.style.specs.Head.{gives, headFrom}
+use Rattle.style.specs.Head.{gives, headFrom, roomSize}
 use Rattle.feature.specs.Feature.{entered, complete, enteredOf}
 use Rattle.feature.specs.Sample.{isLineByte}
 use Rattle.painter.specs.Meaning.{propertyOutcome, definedOutcome, stringsOf, outcomeOf, isTrue}
-use Rattle.painter.specs.Paint.{schemaOf}
+use Rattle.painter.specs.Paint.{Answer, numberOf, schemaOf, paintedOf}
 
 -- ---- what is worked out
 
@@ -71,9 +73,35 @@ module _ (s : Style) (feature : List ℕ) (vs : List Value) where
 abbrev pub IsLine : List ℕ → Type 0
 IsLine feature = All isLineByte feature
 
--- the line is read as these values under the schema of a style: "neither 1 nor 9 refuses it"
-abbrev pub ReadsAs : Style → List ℕ → List Value → Type 0
-ReadsAs s feature vs = (number : ℕ) × (enteredOf (schemaOf s) number feature ≡ entered (complete vs))
+abbrev pub isProperty : Line → Bool
+isProperty word.Prop = true
+isProperty word.Define = false
+isProperty word.Show = false
+isProperty word.Color = false
+isProperty word.Cond = false
+isProperty word.Feat = false
+isProperty word.Unknown = false
+
+-- "(`prop` lines, or none)": those that a head begins with
+abbrev pub propertyLines : List (List ℕ) → List (List ℕ)
+propertyLines [] = []
+propertyLines (l ∷ ls) = cond (isProperty (lineOf (field l 0))) (l ∷ propertyLines ls) []
+
+-- "those `prop` lines alone": the first bytes of the head
+abbrev pub schemaText : List ℕ → List ℕ
+schemaText head = take (bytesOf (propertyLines (lines head))) head
+
+-- "if by this table neither 1 nor 9 refuses it"
+abbrev pub Neither : Answer → Type 0
+Neither a = (numberOf a ≡ 1 → ⊥) × (numberOf a ≡ 9 → ⊥)
+
+-- "A strip conforms to a schema .. if by this table neither 1 nor 9 refuses it after those `prop` lines alone, with room enough."
+abbrev pub ConformsTo : List ℕ → ℕ → List ℕ → Type 0
+ConformsTo schema number feature = Neither (paintedOf 32 roomSize schema number feature)
+
+-- its values, under the schema of a style
+abbrev pub ReadsAs : Style → ℕ → List ℕ → List Value → Type 0
+ReadsAs s number feature vs = enteredOf (schemaOf s) number feature ≡ entered (complete vs)
 
 -- what the `prop` lines of a style give alone
 abbrev pub propertiesOf : Style → Style
@@ -106,11 +134,24 @@ pub record Refused (head : List ℕ) (m n p : ℕ) : Type 0 where
   pub stands : LineAt head n style line
   pub said : lineSaid style line ≡ refused m p
 
--- An expression of a line: all that "the order puts before" its numbers 1 to 7 has passed. That it is judged as a tree says that so have its 1 to 6.
+-- an expression of a line, behind all that the order puts before its numbers 1 to 7
 pub record Reached (head : List ℕ) (n : ℕ) (s : Style) (c : Scope) (want : Wanted) (text : List ℕ) : Type 0 where
   pub line : List ℕ
   pub stands : LineAt head n s line
   pub asks : Asks s line c want text
+
+-- it is refused with a number, at a place of its own
+pub record RefusedAs (head : List ℕ) (m n p : ℕ) (s : Style) (c : Scope) (want : Wanted) (text : List ℕ) : Type 0 where
+  pub reached : Reached head n s c want text
+  pub refused : expressionOf (kindsIn c s) want text ≡ judged.refused m p
+
+-- "the checks before are all that the order puts before this expression's 7": it is reached, and its numbers 1 to 6 are passed with a tree
+pub record Passes (head : List ℕ) (n : ℕ) (s : Style) (c : Scope) (want : Wanted) (text : List ℕ) : Type 0 where
+  pub reached : Reached head n s c want text
+  pub tree : Tree
+  pub is : judgedOf text ≡ fine tree
+
+-- ---- an expression by itself
 
 -- it names no define: "inside a define every name is a property"
 abbrev pub NoDefine : Scope → Style → List ℕ → Tree → Type 0
@@ -121,10 +162,12 @@ NoDefine scope.Style s text e = Variables (λ p n. isAmong (map defineName (s .d
 abbrev pub byItself : Style → List ℕ → List Value → List ℕ → Tree → Outcome
 byItself s feature vs text e = evalOf (record { text = textIn text feature; literals = literalAt text; variables = λ p n. propertyOutcome s vs (nameAt text p) }) e
 
--- some line that conforms makes it fail
-pub record SomeLineFails (s : Style) (want : Wanted) (text : List ℕ) (e : Tree) : Type 0 where
+-- some line that conforms to the head's schema makes it fail
+pub record SomeLineFails (head : List ℕ) (s : Style) (want : Wanted) (text : List ℕ) (e : Tree) : Type 0 where
+  pub number : ℕ
   pub feature : List ℕ
-  pub values : List Value
   pub is-line : IsLine feature
-  pub reads : ReadsAs s feature values
+  pub conforms : ConformsTo (schemaText head) number feature
+  pub values : List Value
+  pub reads : ReadsAs s number feature values
   pub failing : T (fails want (byItself s feature values text e))

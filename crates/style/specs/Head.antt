@@ -28,21 +28,34 @@ unfoldable pub headOf : List ℕ → Headed
 unfolding lineSaid
 headOf head = headFrom 1 empty (lines head)
 
+-- ---- answers in page 01's terms
+
+-- A refusal's number, line and place; or that the head is accepted.
+pub data Answer : Type 0 where
+  refusal : ℕ → ℕ → ℕ → Answer
+  accepted : Answer
+
+abbrev pub answerOf : Checked → Answer
+answerOf (Refused r) = refusal (r .number) (r .line) (r .place)
+answerOf Accepted = accepted
+
+-- "0 | accepted"
+abbrev pub numberOf : Answer → ℕ
+numberOf (refusal number line place) = number
+numberOf accepted = 0
+
 -- ---- what the call answers, and what it leaves in the room
 
-abbrev pub refusal : ℕ → ℕ → ℕ → Checked
-refusal m n p = Refused (record { number = m; line = n; place = p })
-
-abbrev pub answered : Headed → Checked
+abbrev pub answered : Headed → Answer
 answered (refusedAt m n p) = refusal m n p
-answered (gives s) = Accepted
+answered (gives s) = accepted
 
 -- the one size of the room, in slots of two bytes: one for each byte of the longest head
 abbrev pub roomSize : ℕ
 roomSize = 32768
 
 -- "Head 32,768 bytes"
-unfoldable pub checkedOf : ℕ → List ℕ → Checked
+unfoldable pub checkedOf : ℕ → List ℕ → Answer
 unfolding headOf
 checkedOf slots head = cond (ltb slots roomSize) (refusal 10 0 0) (cond (ltb 32768 (length head)) (refusal 1 0 32768) (answered (headOf head)))
 

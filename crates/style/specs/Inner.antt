@@ -27,7 +27,7 @@ use Rattle.style.specs.Style.{Declared, Expression, Define, Condition, S
 use Rattle.style.specs.Expression.{expressionOf}
 use Rattle.style.specs.Expression as judged
 use Rattle.style.specs.Line.{Said, refused, adds, isNew, onExpression, onFlags, propertyLine, defineLine, showLine, colourLine, conditionLine, expression, lineSaid}
-use Rattle.style.specs.Head.{gives, headOf, answered}
+use Rattle.style.specs.Head.{gives, headOf, answerOf, answered}
 use Rattle.style.specs.Tables.{Laid, Counted, Holds, freshTables}
 use Rattle.style.specs.declared.check.Checked.{Checked}
 use Rattle.style.specs.declared.check.Checked.the-variants as checked
@@ -246,7 +246,7 @@ withEntry t at r = withCounts (withRows t at r) (countedWith (t .counts) r)
 -- ---- the lines in turn
 
 pub record LinesBy (head w v : List ℕ) (r : Compiled) : Type 0 where
-  pub answer : r .answer ≡ answered (headOf head)
+  pub answer : answerOf (r .answer) ≡ answered (headOf head)
   pub kept : (s : Style) → headOf head ≡ gives s → Holds head v (r .tables) s (length head + 1)
 
 -- what a refused head has written is taken back

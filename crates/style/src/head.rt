@@ -2,7 +2,7 @@
 ghost use mathlib.Core.Path.{_≡_};
 ghost use Prim.Native.Nat.{_≤_};
 ghost use lib.ListN.{length};
-ghost use Rattle.style.specs.Head.{refusal, checkedOf};
+ghost use Rattle.style.specs.Head.{refusal, answerOf, checkedOf};
 ghost use Rattle.style.specs.Inner.{LinesBy, SettledBy};
 ghost use Rattle.style.specs.Tables.{Leaves};
 use crate::check::Checked;
@@ -26,7 +26,7 @@ pub struct Compiled {
 }
 
 fn refusal(number: u8, line: usize, place: usize) -> Checked
-    ensures { λ r. ⌜ r ≡ refusal number line place ⌝ }
+    ensures { λ r. ⌜ answerOf r ≡ refusal number line place ⌝ }
 {
     Checked::Refused(Refusal {
         number,
@@ -93,7 +93,7 @@ fn settled(compiled: Compiled, room: &mut [u16]) -> Compiled
 // expressions in the room. After a refusal there is nothing to keep, and the room is zero; one that is
 // too small stays as it is.
 pub fn compile(head: &[u8], room: &mut [u16]) -> Compiled
-    ensures answer { λ r. ⌜ r .answer ≡ checkedOf (length (now (room .entry))) (now (head .entry)) ⌝ }
+    ensures answer { λ r. ⌜ answerOf (r .answer) ≡ checkedOf (length (now (room .entry))) (now (head .entry)) ⌝ }
     ensures leaves { λ r. ⌜ Leaves (r .answer) (now (head .entry)) (now (room .entry)) (now (room .exit)) (r .tables) ⌝ }
 {
     if room.len() < ROOM_SIZE {

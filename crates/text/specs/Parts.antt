@@ -17,6 +17,11 @@ partsBefore end b (x ∷ xs) = elim (eqb x b) [ true ↦ [] ∷ partsBefore end 
 abbrev pub lines : List ℕ → List (List ℕ)
 lines text = partsBefore [] 10 text
 
+-- how many bytes lines have, with the LF that ends each
+abbrev pub bytesOf : List (List ℕ) → ℕ
+bytesOf [] = 0
+bytesOf (l ∷ ls) = suc (length l + bytesOf ls)
+
 -- parted by one byte: there is one part more than such bytes
 abbrev pub parted : ℕ → List ℕ → List (List ℕ)
 parted b text = partsBefore ([] ∷ []) b text

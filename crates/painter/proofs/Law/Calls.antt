@@ -95,18 +95,19 @@ module _ (bytes : ℕ) (room : List ℕ) (head : List ℕ) (number : ℕ) (featu
 
     -- ---- a head that is refused
 
-    abbrev answerIn : Checked → Answer
-    answerIn (checked.Refused r) = refusal (r .number) (r .line) (r .place)
-    answerIn checked.Accepted = refusal 0 0 0
+    abbrev answerIn : style.Answer → Answer
+    answerIn (style.refusal m n p) = refusal m n p
+    answerIn style.accepted = refusal 0 0 0
 
-    pub refused-answer : (x : Checked) → x ≡ checkedOf (length room) head → (r : Refusal) → x ≡ checked.Refused r → answerIn (checked.Refused r) ≡ paintedOf bytes (length room) head number feature
+    pub refused-answer : (x : Checked) → style.answerOf x ≡ checkedOf (length room) head → (r : Refusal) → x ≡ checked.Refused r →
+        refusal (r .number) (r .line) (r .place) ≡ paintedOf bytes (length room) head number feature
     unfolding checkedOf paintedOf
     refused-answer x is r e =
-        go (ltb (length room) roomSize) (ltb 32768 (length head)) (headOf head) (sym is ∙ e)
+        go (ltb (length room) roomSize) (ltb 32768 (length head)) (headOf head) (sym is ∙ ap style.answerOf e)
         ∙ ap (λ (b : Bool). cond b (refusal 10 0 0) (cond (ltb 32768 (length head)) (refusal 1 0 32768) (headed (headOf head) number feature))) (sym by-room)
       where
-        go : (a b : Bool) (h : Headed) → cond a (style.refusal 10 0 0) (cond b (style.refusal 1 0 32768) (style.answered h)) ≡ checked.Refused r →
-            answerIn (checked.Refused r) ≡ cond a (refusal 10 0 0) (cond b (refusal 1 0 32768) (headed h number feature))
+        go : (a b : Bool) (h : Headed) → cond a (style.refusal 10 0 0) (cond b (style.refusal 1 0 32768) (style.answered h)) ≡ style.refusal (r .number) (r .line) (r .place) →
+            refusal (r .number) (r .line) (r .place) ≡ cond a (refusal 10 0 0) (cond b (refusal 1 0 32768) (headed h number feature))
         go true b h q = ap answerIn (sym q)
         go false true h q = ap answerIn (sym q)
         go false false (refusedAt m n p) q = ap answerIn (sym q)

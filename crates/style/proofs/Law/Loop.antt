@@ -20,7 +20,7 @@ use Rattle.text.proofs.Law.Parts.{lines-from, end-within}
 use Rattle.text.proofs.Slices.{put-length}
 use Rattle.style.specs.Style.{Expression, Define, Condition, Style, empty, with, admits}
 use Rattle.style.specs.Line.{Said, refused, lineSaid}
-use Rattle.style.specs.Head.{Headed, refusedAt, gives, onLine, headFrom, headOf, answered, refusal, checkedOf, roomAfter}
+use Rattle.style.specs.Head.{Headed, refusedAt, gives, onLine, headFrom, headOf, Answer, refusal, accepted, answerOf, answered, checkedOf, roomAfter}
 use Rattle.style.specs.Tables.{FreeRow, Held, StyleHeld, Expressed, Holds, freshTables, Leaves}
 use Rattle.style.specs.Inner.{Says, Admitted, ReadBy, Fits, Within, isRefused, numberIn, placeIn, withEntry, LinesBy, Settled, SettledBy}
 use Rattle.style.specs.declared.check.Refusal.{Refusal}
@@ -198,12 +198,9 @@ further head room t s at to l h =
     wider : (c : Scope) (row : ℕ) (e : Expression) → Held c head room t at row e → Held c head room t to row e
     wider c row e y = (omega (arith, y .0, l), y .1)
 
-abbrev pub isAccepted : Checked → Bool
-isAccepted checked.Accepted = true
-isAccepted (checked.Refused r) = false
-
-refusal-other : {m n p : ℕ} → refusal m n p ≡ checked.Accepted → ⊥
-refusal-other e = false≢true (ap isAccepted e)
+abbrev pub isAccepted : Answer → Bool
+isAccepted accepted = true
+isAccepted (refusal m n p) = false
 
 abbrev pub styleIn : Headed → Style → Style
 styleIn (refusedAt m n p) s = s
@@ -214,7 +211,7 @@ isGiven (refusedAt m n p) = false
 isGiven (gives s) = true
 
 module _ (head w v : List ℕ) where
-  pub lines-refused : (m n p : ℕ) (a : Checked) (t : Tables) → headOf head ≡ refusedAt m n p → a ≡ refusal m n p → LinesBy head w v (record { answer = a; tables = t })
+  pub lines-refused : (m n p : ℕ) (a : Checked) (t : Tables) → headOf head ≡ refusedAt m n p → answerOf a ≡ refusal m n p → LinesBy head w v (record { answer = a; tables = t })
   lines-refused m n p a t h e = record { answer = e ∙ ap answered (sym h); kept = λ s g. absurd (false≢true (ap isGiven (sym h ∙ g))) }
 
   pub lines-end : (at n : ℕ) (t : Tables) → Sofar head v t at n → length head ≤ at → LinesBy head w v (record { answer = checked.Accepted; tables = t })
@@ -238,29 +235,34 @@ settled-cleared c w v x t e f z =
 -- ---- the whole call
 
 abbrev WholeBy : List ℕ → List ℕ → List ℕ → Compiled → Type 0
-WholeBy head room after r = (r .answer ≡ checkedOf (length room) head) × Leaves (r .answer) head room after (r .tables)
+WholeBy head room after r = (answerOf (r .answer) ≡ checkedOf (length room) head) × Leaves (r .answer) head room after (r .tables)
 
 module _ (head room : List ℕ) where
-  pub too-small : (a : Checked) (t : Tables) → length room < 32768 → a ≡ refusal 10 0 0 → t ≡ freshTables → WholeBy head room room (record { answer = a; tables = t })
+  -- a refusal leaves nothing
+  refused-leaves : (a : Checked) (t : Tables) (after : List ℕ) {m n p : ℕ} → answerOf a ≡ refusal m n p → t ≡ freshTables → after ≡ roomAfter room → Leaves a head room after t
+  refused-leaves (checked.Refused x) t after e f z = (f, z)
+  refused-leaves checked.Accepted t after e f z = absurd (false≢true (sym (ap isAccepted e)))
+
+  pub too-small : (a : Checked) (t : Tables) → length room < 32768 → answerOf a ≡ refusal 10 0 0 → t ≡ freshTables → WholeBy head room room (record { answer = a; tables = t })
   unfolding checkedOf
   too-small a t h e f =
       let small = lt-ltb (length room) 32768 h in
-      (e ∙ sym (taken _ small refl), subst (λ a. Leaves a head room room t) (sym e) (f, sym (taken _ small refl)))
+      (e ∙ sym (taken _ small refl), refused-leaves a t room e f (sym (taken _ small refl)))
 
-  pub too-long : (a : Checked) (t : Tables) (after : List ℕ) → 32768 ≤ length room → 32768 < length head → a ≡ refusal 1 0 32768 → t ≡ freshTables → after ≡ replicate (length room) 0 →
+  pub too-long : (a : Checked) (t : Tables) (after : List ℕ) → 32768 ≤ length room → 32768 < length head → answerOf a ≡ refusal 1 0 32768 → t ≡ freshTables → after ≡ replicate (length room) 0 →
       WholeBy head room after (record { answer = a; tables = t })
   unfolding checkedOf
   too-long a t after h k e f z =
       let large = le-ltb (length room) 32768 h in
-      (e ∙ sym (passed _ large (taken _ (lt-ltb 32768 (length head) k) refl)), subst (λ a. Leaves a head room after t) (sym e) (f, z ∙ sym (passed _ large refl)))
+      (e ∙ sym (passed _ large (taken _ (lt-ltb 32768 (length head) k) refl)), refused-leaves a t after e f (z ∙ sym (passed _ large refl)))
 
   module _ (h : 32768 ≤ length room) (k : length head ≤ 32768) where
-    by-lines : (a : Checked) → a ≡ answered (headOf head) → a ≡ checkedOf (length room) head
+    by-lines : (a : Answer) → a ≡ answered (headOf head) → a ≡ checkedOf (length room) head
     unfolding checkedOf
     by-lines a e = e ∙ sym (passed _ (le-ltb (length room) 32768 h) (passed _ (le-ltb 32768 (length head) k) refl))
 
     -- an accepted answer is of a head that gives a style
-    given : (x : Headed) → checked.Accepted ≡ answered x → (s : Style) × (x ≡ gives s)
+    given : (x : Headed) → accepted ≡ answered x → (s : Style) × (x ≡ gives s)
     given (refusedAt m n p) e = absurd (false≢true (sym (ap isAccepted e)))
     given (gives s) e = (s, refl)
 
@@ -269,13 +271,14 @@ module _ (head room : List ℕ) where
       where
         go : (a : Checked) → c .answer ≡ a → Settled a (c .tables) u after r → WholeBy head room after r
         go (checked.Refused x) e f = (
-          ap (λ (r : Compiled). r .answer) (f .0) ∙ by-lines (checked.Refused x) (sym e ∙ by .answer),
+          ap (λ (r : Compiled). answerOf (r .answer)) (f .0) ∙ by-lines (answerOf (checked.Refused x)) (ap answerOf (sym e) ∙ by .answer),
           subst (λ (r : Compiled). Leaves (r .answer) head room after (r .tables)) (sym (f .0))
               (refl, f .1 ∙ ap (λ (i : ℕ). replicate i 0) n ∙ sym (passed _ (le-ltb (length room) 32768 h) refl)),
         )
         go checked.Accepted e f =
-            let g = given (headOf head) (sym e ∙ by .answer) in (
-              ap (λ (r : Compiled). r .answer) (f .0) ∙ by-lines checked.Accepted (sym e ∙ by .answer),
+            let is = ap answerOf (sym e) ∙ by .answer in
+            let g = given (headOf head) is in (
+              ap (λ (r : Compiled). answerOf (r .answer)) (f .0) ∙ by-lines accepted is,
               subst (λ (r : Compiled). Leaves (r .answer) head room after (r .tables)) (sym (f .0))
                   (g .0, g .1, h, k, m ∙ n, subst (λ (v : List ℕ). Holds head v (c .tables) (g .0) (length head + 1)) (sym (f .1)) (by .kept (g .0) (g .1))),
             )

@@ -10,13 +10,13 @@ use borrow.Author.Tests.{eq-eqb, not-true, ltb-true, ltb-false, lt-ltb, le-ltb, 
 use lib.Dec.{eqb, ltb, leb}
 use lib.Ieee.Bits.{is-true}
 use lib.ListN.{length, getD, take, drop, length-drop, drop-of-length-le}
-use lib.Seq.{slice, take-all, drop-cons, drop-drop, length-slice}
+use lib.Seq.{slice, take-nil, take-all, drop-cons, drop-drop, length-slice}
 use Rattle.lexer.specs.Bytes.{run}
 use Rattle.lexer.specs.Spelling.{All}
 use Rattle.lexer.proofs.Law.Runs.{run-cons, run-nil, run-le}
 use Rattle.lexer.proofs.Law.Spelling.{slice-is}
 use Rattle.words.specs.Table.{before}
-use Rattle.text.specs.Parts.{partsBefore, lines, parted, startIn, partAt, endFrom}
+use Rattle.text.specs.Parts.{partsBefore, lines, bytesOf, parted, startIn, partAt, endFrom}
 use Rattle.text.specs.declared.part.Part.{Part}
 
 -- two numbers, by which is the greater
@@ -125,6 +125,52 @@ lines-from text at h = by-order (endFrom 10 text at) (length text) (λ k. parts-
         subst (λ (l : List ℕ). length l ≤ run (λ x. not (eqb x 10)) l → lines l ≡ l ∷ []) (sym s) (only-line (getD text at 0) (drop (suc at) text)) n in
         let past : drop (endFrom 10 text at + 1) text ≡ [] = drop-of-length-le text {i = endFrom 10 text at + 1} (omega (arith, k)) in
         one ∙ rw (past, ← last-from 10 text at (omega (arith, h)) k)
+
+-- ---- the first lines of a text
+
+no-lines : (xs : List ℕ) → lines xs ≡ [] → xs ≡ []
+no-lines [] h = refl
+no-lines (x ∷ xs) h = go (eqb x 10) refl
+  where
+    some : (ls : List (List ℕ)) → before x ls ≡ [] → ⊥
+    some [] e = absurd (let n : _≡_ {A = ℕ} 1 0 = ap length e in omega arith)
+    some (l ∷ ls) e = absurd (let n : suc (length ls) ≡ 0 = ap length e in omega arith)
+
+    go : (t : Bool) → eqb x 10 ≡ t → x ∷ xs ≡ []
+    go true e = absurd (let n : suc (length (lines xs)) ≡ 0 = ap length (sym (first-ends [] 10 x xs e .0) ∙ h) in omega arith)
+    go false e = absurd (some (lines xs) (sym (first-goes [] 10 x xs e .0) ∙ h))
+
+-- what is said of the first so many lines, where the text's lines are these
+abbrev Front : List ℕ → List (List ℕ) → ℕ → Type 0
+Front text ls k = lines (take (bytesOf (take k ls)) text) ≡ take k ls
+
+module _ (x : ℕ) (xs : List ℕ) (k : ℕ) where
+  -- an LF before the lines of the others
+  front-ends : eqb x 10 ≡ true → Front xs (lines xs) k → Front (x ∷ xs) ([] ∷ lines xs) (suc k)
+  front-ends e rest =
+      let n : 0 + bytesOf (take k (lines xs)) ≡ bytesOf (take k (lines xs)) = omega arith in
+      ap (λ (n : ℕ). lines (x ∷ take n xs)) n ∙ first-ends [] 10 x (take (bytesOf (take k (lines xs))) xs) e .0 ∙ ap (λ (ls : List (List ℕ)). [] ∷ ls) rest
+
+  -- another byte
+  front-goes : eqb x 10 ≡ false → (ls : List (List ℕ)) → lines xs ≡ ls → Front xs ls (suc k) → Front (x ∷ xs) (before x ls) (suc k)
+  front-goes e [] h rest =
+      subst (λ (s : List ℕ). Front (x ∷ s) ((x ∷ []) ∷ []) (suc k)) (sym (no-lines xs h))
+      (subst (λ (s : List (List ℕ)). lines (take (bytesOf ((x ∷ []) ∷ s)) (x ∷ [])) ≡ (x ∷ []) ∷ s) (sym (take-nil k)) (first-goes [] 10 x [] e .0))
+  front-goes e (l ∷ ls) h rest =
+      let n : suc (length l) + bytesOf (take k ls) ≡ bytesOf (take (suc k) (l ∷ ls)) = omega arith in
+      ap (λ (n : ℕ). lines (x ∷ take n xs)) n ∙ first-goes [] 10 x (take (bytesOf (take (suc k) (l ∷ ls))) xs) e .0 ∙ ap (before x) rest
+
+  front-byte : ((k : ℕ) → Front xs (lines xs) k) → Front (x ∷ xs) (lines (x ∷ xs)) (suc k)
+  front-byte rest = go (eqb x 10) refl
+    where
+      go : (t : Bool) → eqb x 10 ≡ t → Front (x ∷ xs) (lines (x ∷ xs)) (suc k)
+      go true e = subst (λ ls. Front (x ∷ xs) ls (suc k)) (sym (first-ends [] 10 x xs e .0)) (front-ends e (rest k))
+      go false e = subst (λ ls. Front (x ∷ xs) ls (suc k)) (sym (first-goes [] 10 x xs e .0)) (front-goes e (lines xs) refl (rest (suc k)))
+
+-- The bytes of the first k lines are a text of those lines.
+pub lines-front : (text : List ℕ) → ((k : ℕ) → lines (take (bytesOf (take k (lines text))) text) ≡ take k (lines text))
+lines-front [] = λ k. elim k [ zero ↦ refl | suc j ↦ refl ]
+lines-front (x ∷ xs) = λ k. elim k [ zero ↦ refl | suc j ↦ front-byte x xs j (lines-front xs) ]
 
 -- ---- the parts from a place on
 

@@ -12,7 +12,7 @@ fresh-requires c κs = search needs
 
 returns : tie.Need-returns
 returns c =
-    too-small _ _ _ _ (c .before .before .if1 .taken) (c .before .refusal .ensures) (c .fresh .ensures)
+    too-small _ _ (c .before .refusal .result) _ (c .before .before .if1 .taken) (c .before .refusal .ensures) (c .fresh .ensures)
 
 clear-requires : tie.Need-clear-requires
 clear-requires c κs = search needs
@@ -28,7 +28,7 @@ same-length c = search needs
 
 returns-2 : tie.Need-returns-2
 returns-2 c =
-    too-long _ _ _ _ _ (c .before .before .before .before .before .before .before .if1 .left) (c .before .before .before .before .before .before .if2 .taken) (c .before .refusal2 .ensures) (c .fresh2 .ensures) (c .before .before .before .before .clear .ensures)
+    too-long _ _ (c .before .refusal2 .result) _ _ (c .before .before .before .before .before .before .before .if1 .left) (c .before .before .before .before .before .before .if2 .taken) (c .before .refusal2 .ensures) (c .fresh2 .ensures) (c .before .before .before .before .clear .ensures)
 
 read-lines-requires : tie.Need-read-lines-requires
 read-lines-requires c κs = search needs
