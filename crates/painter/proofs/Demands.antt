@@ -123,15 +123,15 @@ module _ (slots : ℕ) (head : List ℕ) where
       ↔ ((roomSize ≤ slots) × (length head ≤ 32768) × (x : Passes head n s c want text) × SomeLineFails head s want text (x .tree))
   seven-exactly n s c want text such = (
     (λ r.
-      let (p, e, at) = r in
-      let (enough, small) = seven n p e in
-      let (tree, is, kinds) = seven-judged (kindsIn c s) want text p (at .refused) in
-      let x : Passes head n s c want text = record { reached = at .reached; tree = tree; is = is } in
-      (enough, small, x, refused-exactly head small n s c want text x (such x .0) (such x .1) .0 (p, at))),
+        let (p, e, at) = r in
+        let (enough, small) = seven n p e in
+        let (tree, is, kinds) = seven-judged (kindsIn c s) want text p (at .refused) in
+        let x : Passes head n s c want text = record { reached = at .reached; tree = tree; is = is } in
+        (enough, small, x, refused-exactly head small n s c want text x (such x .0) (such x .1) .0 (p, at))),
     (λ w.
-      let (enough, small, x, fails) = w in
-      let (p, at) = refused-exactly head small n s c want text x (such x .0) (such x .1) .1 fails in
-      (p, order.check-refused slots enough head small 7 n p .1 (head-refused head 7 n p s c want text at), at)),
+        let (enough, small, x, fails) = w in
+        let (p, at) = refused-exactly head small n s c want text x (such x .0) (such x .1) .1 fails in
+        (p, order.check-refused slots enough head small 7 n p .1 (head-refused head 7 n p s c want text at), at)),
   )
 
   -- Whatever is refused with 7 is such an expression of a line: it has passed the checks before, and the kinds of its tree are refused there.
