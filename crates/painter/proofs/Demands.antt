@@ -30,6 +30,7 @@ use Rattle.style.specs.declared.check.Checked.the-variants as checked
 use Rattle.style.specs.declared.tables.Tables.{Tables}
 use Rattle.style.proofs.Accepted.{accepted-stand}
 use Rattle.output.specs.Line.{paintedLine}
+use Rattle.output.specs.declared.line.Colouring.{Colouring}
 use Rattle.output.specs.declared.line.Colouring.the-variants.{None}
 use Rattle.painter.specs.Meaning.{showOf, colouringOf}
 use Rattle.painter.specs.Paint.{Answer, refusal, accepted, featuredBy, headed, paintedOf, outAfter}
@@ -88,6 +89,11 @@ module _ (slots : ℕ) (enough : roomSize ≤ slots) (head : List ℕ) (small : 
       let (s, is) = order.check-accepted slots enough head small .0 e in
       let (vs, reads) = order.conforms-reads head small s (given-schema head s is) number feature .0 conforms in
       (s, vs, is, reads)
+
+  -- and no other strip is painted
+  pub painted-only : (bytes : ℕ) → 32 ≤ bytes → (number : ℕ) (feature : List ℕ) (show : Bool) (colouring : Colouring) (k : ℕ) → paintedOf bytes slots head number feature ≡ accepted show colouring k →
+      (s : Style) × (vs : List Value) × (headOf head ≡ gives s) × ReadsAs s number feature vs
+  painted-only = order.paint-accepted slots enough head small
 
   module _ (s : Style) (is : headOf head ≡ gives s) (number : ℕ) (feature : List ℕ) (vs : List Value) (reads : ReadsAs s number feature vs) where
     -- ---- 2: exactly the show and colour that the written meaning gives
