@@ -1,8 +1,8 @@
 #!/usr/bin/env python3
 """How fast a ledger program is and how much memory and stack it takes, as tables for a document.
 
-    python3 bench/ledger_bench.py -- path/to/ledger
-    python3 bench/ledger_bench.py --strips 1000,10000 --heads 100,1000 --runs 1 -- path/to/ledger
+    python3 bench/ledger_bench.py -- examples/ledger
+    python3 bench/ledger_bench.py --strips 1000,10000 --heads 100,1000 --runs 1 -- examples/ledger
 
 The blocks are made from a fixed seed, so that two runs, or two programs, have the same work. Each figure
 is the best of `--runs` runs, from the start of the program to its end, its input and its output being

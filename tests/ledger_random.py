@@ -1,9 +1,9 @@
 #!/usr/bin/env python3
 """Runs a ledger program and compares what it prints with ledger_reference.py, byte for byte.
 
-    python3 tests/ledger_random.py --count 1000 --seed 7 -- path/to/ledger
-    python3 tests/ledger_random.py --cases -- path/to/ledger
-    python3 tests/ledger_random.py --long -- path/to/ledger
+    python3 tests/ledger_random.py --count 1000 --seed 7 -- examples/ledger
+    python3 tests/ledger_random.py --cases -- examples/ledger
+    python3 tests/ledger_random.py --long -- examples/ledger
 
 `--count` runs so many random inputs, made from `--seed`: right ones, damaged ones, and some of many
 strips. `--cases` runs all cases of crates/ledger_cases/data. `--long` runs what is too long for a case:

@@ -2,7 +2,7 @@
 """Runs the examples of docs/MANUAL.md and compares what is printed with what the manual says.
 
     python3 tests/manual_examples.py
-    python3 tests/manual_examples.py -- path/to/ledger
+    python3 tests/manual_examples.py -- examples/ledger
 
 Without a program they are run by ledger_reference.py. The manual has examples of four forms: an input in
 one block and its whole ledger in the next; a line or more behind the manual's declarations, with `⇒` and
