@@ -216,6 +216,7 @@ def stack_rows(bench, sizes):
     yield 'ledger, the block of the first table', *bench.stack(survey_head())
     yield 'ledger, a head of {:,} bytes'.format(sizes[-1]), *bench.stack(sized_head(sizes[-1]))
     yield 'ledger, expressions of height 64', *bench.stack(tall_head())
+    yield 'ledger, an expression that takes the parser deepest, refused', *bench.stack('show\t%s\n' % ('!' * 992 + '(' * 32))
 
 
 def tall_head():

@@ -288,6 +288,14 @@ Shut s = admitsTo s word.Prop ≡ false
 more : {A : Type 0} (xs : List A) (x : A) → length (xs ++ x ∷ []) ≡ 0 → ⊥
 more xs x h = omega (arith, length-append xs (x ∷ []))
 
+-- none may stand behind an entry of another word
+shuts : (s : Style) (x : Entry) → isProperty (wordOf x) ≡ false → Shut (with s x)
+shuts s (entry.property d) e = absurd (true≢false e)
+shuts s (entry.define d) e = later _ _ _ _ _ (λ a b c e. more (s .defines) d a)
+shuts s (entry.show x) e = later _ _ _ _ _ (λ a b c d. more (s .shows) x b)
+shuts s (entry.colour x) e = later _ _ _ _ _ (λ a b c d. more (s .colours) x c)
+shuts s (entry.condition x) e = later _ _ _ _ _ (λ a b c d. more (s .conditions) x d)
+
 -- once none may stand, the properties stay
 stay : (ls : List (List ℕ)) (k : ℕ) (s : Style) → Shut s → (t : Style) → headFrom k s ls ≡ gives t → t .properties ≡ s .properties
 stay [] k s c t h = ap (λ x. styleIn x t .properties) (sym h)
@@ -297,10 +305,10 @@ stay (l ∷ ls) k s c t h = go (lineSaid s l) (line-told s l) (λ x c. stay ls (
         onLine k said (λ x. headFrom (suc k) (with s x) ls) ≡ gives t → t .properties ≡ s .properties
     go (refused m p) told rest h = absurd (false≢true (ap isGiven h))
     go (adds (entry.property d)) (goes w o g) rest h = absurd (false≢true (sym c ∙ o))
-    go (adds (entry.define d)) told rest h = rest (entry.define d) (later _ _ _ _ _ (λ a b c e. more (s .defines) d a)) h
-    go (adds (entry.show e)) told rest h = rest (entry.show e) (later _ _ _ _ _ (λ a b c d. more (s .shows) e b)) h
-    go (adds (entry.colour e)) told rest h = rest (entry.colour e) (later _ _ _ _ _ (λ a b c d. more (s .colours) e c)) h
-    go (adds (entry.condition x)) told rest h = rest (entry.condition x) (later _ _ _ _ _ (λ a b c d. more (s .conditions) x d)) h
+    go (adds (entry.define d)) told rest h = rest (entry.define d) (shuts s (entry.define d) refl) h
+    go (adds (entry.show e)) told rest h = rest (entry.show e) (shuts s (entry.show e) refl) h
+    go (adds (entry.colour e)) told rest h = rest (entry.colour e) (shuts s (entry.colour e) refl) h
+    go (adds (entry.condition x)) told rest h = rest (entry.condition x) (shuts s (entry.condition x) refl) h
 
 -- a line that is none of a property's ends those
 no-property : (l : List ℕ) (ls : List (List ℕ)) (w : Line) → lineOf (field l 0) ≡ w → isProperty w ≡ false → propertyLines (l ∷ ls) ≡ []
@@ -313,11 +321,11 @@ module _ (rest : List (List ℕ)) (none : propertyLines rest ≡ []) where
   alone-from (l ∷ ls) k s a t h = go (lineSaid s l) refl (line-told s l) (λ x a. alone-from ls (suc k) (with s x) a t) h
     where
       -- all lines behind one that adds something else
-      ends : (x : Entry) → lineOf (field l 0) ≡ wordOf x → isProperty (wordOf x) ≡ false → Shut (with s x) → with s x .properties ≡ s .properties →
+      ends : (x : Entry) → lineOf (field l 0) ≡ wordOf x → isProperty (wordOf x) ≡ false → with s x .properties ≡ s .properties →
           headFrom (suc k) (with s x) ls ≡ gives t → headFrom k s (propertyLines (l ∷ (ls ++ rest))) ≡ gives (propertiesOf t)
-      ends x w i c same h =
+      ends x w i same h =
           ap (headFrom k s) (no-property l (ls ++ rest) (wordOf x) w i)
-          ∙ ap gives (a ∙ ap (λ ds. record { properties = ds; defines = []; shows = []; colours = []; conditions = [] }) (sym (stay ls (suc k) (with s x) c t h ∙ same)))
+          ∙ ap gives (a ∙ ap (λ ds. record { properties = ds; defines = []; shows = []; colours = []; conditions = [] }) (sym (stay ls (suc k) (with s x) (shuts s x i) t h ∙ same)))
 
       go : (said : Said) → lineSaid s l ≡ said → Told s l said →
           ((x : Entry) → with s x ≡ propertiesOf (with s x) → headFrom (suc k) (with s x) ls ≡ gives t → headFrom (suc k) (with s x) (propertyLines (ls ++ rest)) ≡ gives (propertiesOf t)) →
@@ -327,10 +335,10 @@ module _ (rest : List (List ℕ)) (none : propertyLines rest ≡ []) where
           ap (headFrom k s) (taken [] (ap isProperty w) refl)
           ∙ ap (λ said. onLine k said (λ x. headFrom (suc k) (with s x) (propertyLines (ls ++ rest)))) e
           ∙ onward (entry.property d) (ap (λ (s : Style). with s (entry.property d)) a) h
-      go (adds (entry.define d)) e (goes w o g) onward h = ends (entry.define d) w refl (later _ _ _ _ _ (λ a b c e. more (s .defines) d a)) refl h
-      go (adds (entry.show x)) e (goes w o g) onward h = ends (entry.show x) w refl (later _ _ _ _ _ (λ a b c d. more (s .shows) x b)) refl h
-      go (adds (entry.colour x)) e (goes w o g) onward h = ends (entry.colour x) w refl (later _ _ _ _ _ (λ a b c d. more (s .colours) x c)) refl h
-      go (adds (entry.condition x)) e (goes w o g) onward h = ends (entry.condition x) w refl (later _ _ _ _ _ (λ a b c d. more (s .conditions) x d)) refl h
+      go (adds (entry.define d)) e (goes w o g) onward h = ends (entry.define d) w refl refl h
+      go (adds (entry.show x)) e (goes w o g) onward h = ends (entry.show x) w refl refl h
+      go (adds (entry.colour x)) e (goes w o g) onward h = ends (entry.colour x) w refl refl h
+      go (adds (entry.condition x)) e (goes w o g) onward h = ends (entry.condition x) w refl refl h
 
 first-lines : (ls : List (List ℕ)) → take (length (propertyLines ls)) ls ≡ propertyLines ls
 first-lines [] = refl
