@@ -3,9 +3,8 @@ ghost use Prim.Native.Nat.{_≤_};
 ghost use lib.ListN.{length};
 use crate::input;
 use crate::writer;
-use output::line::refused_feature;
 use painter::apply::apply;
-use painter::paint::Painted;
+use painter::print;
 use style::tables::Tables;
 use text::part;
 
@@ -30,12 +29,6 @@ struct Progress {
     pub inside: bool,
 }
 
-fn least(a: usize, b: usize) -> usize
-    ensures { λ r. ⌜ r ≤ b ⌝ }
-{
-    if a < b { a } else { b }
-}
-
 // The length of a feature's line, which is written at the front.
 fn line(
     head: &[u8],
@@ -47,14 +40,8 @@ fn line(
 ) -> usize
     ensures { λ r. ⌜ r ≤ length (now (out .entry)) ⌝ }
 {
-    match apply(head, tables, slots, feature, number, out) {
-        Painted::Painted {
-            show: _,
-            colouring: _,
-            bytes,
-        } => least(bytes, out.len()),
-        Painted::Refused(r) => refused_feature(out, number, r.number, r.place),
-    }
+    let answer = apply(head, tables, slots, feature, number, out);
+    print::line(answer, number, out)
 }
 
 // How many bytes wait with that line behind the others.

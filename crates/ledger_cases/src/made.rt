@@ -1,35 +1,22 @@
 // The output of an input, made by the functions that check a head and that paint a feature.
 ghost use Prim.Native.Nat.{_≤_};
 ghost use lib.ListN.{length};
-use output::line::refused_feature;
 use output::line::refused_head;
 use output::page;
-use painter::paint::Painted;
 use painter::paint::paint;
+use painter::print;
 use style::check::Checked;
 use style::check::Refusal;
 use style::check::check;
 use text::head::head_end;
 use text::part;
 
-fn least(a: usize, b: usize) -> usize
-    ensures { λ r. ⌜ r ≤ b ⌝ }
-{
-    if a < b { a } else { b }
-}
-
 // The length of a feature's line, which is written at the front.
 fn line(head: &[u8], feature: &[u8], number: usize, slots: &mut [u16], out: &mut [u8]) -> usize
     ensures { λ r. ⌜ r ≤ length (now (out .entry)) ⌝ }
 {
-    match paint(head, feature, number, out, slots) {
-        Painted::Painted {
-            show: _,
-            colouring: _,
-            bytes,
-        } => least(bytes, out.len()),
-        Painted::Refused(r) => refused_feature(out, number, r.number, r.place),
-    }
+    let answer = paint(head, feature, number, out, slots);
+    print::line(answer, number, out)
 }
 
 // Where the lines of all features end, which begin behind the heading.

@@ -1,7 +1,7 @@
 -- What the painter answers, and what it leaves in lent memory: page 01, "Refusal numbers" and "Checked examples".
 use mathlib.Core.Bool.{Bool, cond, _||_}
 use mathlib.Core.List.{List, map, _++_}
-use Prim.Native.Nat.{ℕ}
+use Prim.Native.Nat.{ℕ, min}
 use lib.Dec.{ltb}
 use lib.ListN.{length, drop, replicate}
 use Rattle.kind.specs.declared.set.Kinds.{Kinds}
@@ -9,7 +9,7 @@ use Rattle.checker.specs.Property.{propertyKinds}
 use Rattle.style.specs.Style.{Declared, Style}
 use Rattle.style.specs.Head.{Headed, refusedAt, gives, headOf, roomSize}
 use Rattle.feature.specs.Feature.{Entered, refused, entered, complete, broken, enteredOf}
-use Rattle.output.specs.Line.{paintedLine}
+use Rattle.output.specs.Line.{front, paintedLine, refusedFeature}
 use Rattle.output.specs.declared.line.Colouring.{Colouring}
 use Rattle.painter.specs.Meaning.{showOf, colouringOf}
 use Rattle.painter.specs.declared.paint.Painted.{Painted}
@@ -81,3 +81,10 @@ outAfter (accepted show colouring bytes) number out = paintedLine number show co
 -- "Work room, if lent, is zero after each call, save under 10, when it is untouched."
 abbrev pub roomAfter : ℕ → List ℕ → List ℕ
 roomAfter bytes room = cond (isShort bytes (length room)) room (replicate (length room) 0)
+
+-- ---- what is printed
+
+-- The buffer, and how many of its first bytes are the feature's line: a painted one's stand there already, and a refused one's are written, if they fit.
+abbrev pub printedBy : Answer → ℕ → List ℕ → List ℕ × ℕ
+printedBy (refusal n l p) number out = front out (refusedFeature number n p)
+printedBy (accepted show colouring bytes) number out = (out, min bytes (length out))

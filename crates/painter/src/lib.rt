@@ -2,3 +2,4 @@
 pub mod apply;
 mod draw;
 pub mod paint;
+pub mod print;

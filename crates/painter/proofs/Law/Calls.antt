@@ -2,7 +2,7 @@
 use mathlib.Core.Path.{_≡_, refl, sym, _∙_, ap, subst}
 use mathlib.Core.Bool.{Bool, true, false, cond, _||_, false≢true}
 use mathlib.Core.List.{List}
-use Prim.Native.Nat.{ℕ, _+_, _<_, _≤_}
+use Prim.Native.Nat.{ℕ, _+_, _<_, _≤_, min}
 use native.Mathlib.Omega.{arith}
 use borrow.Author.Tests.{lt-ltb, le-ltb}
 use lib.Dec.{ltb}
@@ -23,7 +23,12 @@ use Rattle.style.proofs.Law.Loop.{isAccepted}
 use Rattle.feature.specs.Feature.{setsOf, Entered, refused, entered, complete, broken, enteredOf, answered, featureOf, rowsAfter, floatsAfter, valuesOf, rowsWith, floatsWith}
 use Rattle.feature.specs.declared.feature.Feature.{Feature}
 use Rattle.feature.specs.declared.feature.Feature.the-variants.{Refused, Read}
-use Rattle.painter.specs.Paint.{Answer, refusal, featured, headed, isShort, paintedOf, outAfter, roomAfter}
+use Rattle.output.specs.Line.{front, refusedFeature}
+use Rattle.output.specs.declared.line.Colouring.{Colouring}
+use Rattle.output.proofs.Law.Lines.{front-within}
+use Rattle.painter.specs.Paint.{Answer, refusal, answerOf, featured, headed, isShort, paintedOf, outAfter, roomAfter, printedBy}
+use Rattle.painter.specs.declared.paint.Painted.{Painted}
+use Rattle.painter.specs.declared.paint.Painted.the-variants as painted
 use Rattle.painter.specs.Arrays.{tableSource, drawn, appliedBy, appliedOf}
 use Rattle.painter.proofs.Law.Drawn.{applied-is}
 
@@ -144,3 +149,14 @@ module _ (bytes : ℕ) (room : List ℕ) (head : List ℕ) (number : ℕ) (featu
           z
           ∙ ap (λ (n : ℕ). replicate n 0) (left .4)
           ∙ sym (passed _ (by-room ∙ le-ltb (length room) roomSize (left .2)) refl)
+
+-- ---- what is printed
+
+module _ (a : Painted) (number : ℕ) (out : List ℕ) where
+  pub printed-painted : (show : Bool) (colouring : Colouring) (bytes : ℕ) → a ≡ painted.Painted show colouring bytes → (r : ℕ) → r ≡ min bytes (length out) →
+      ((out, r) ≡ printedBy (answerOf a) number out) × (r ≤ length out)
+  printed-painted show colouring bytes e r h = ((λ i. (out, h i)) ∙ ap (λ (a : Painted). printedBy (answerOf a) number out) (sym e), omega (arith, h))
+
+  pub printed-refused : (x : Refusal) → a ≡ painted.Refused x → (out′ : List ℕ) (r : ℕ) → (out′, r) ≡ front out (refusedFeature number (x .number) (x .place)) →
+      ((out′, r) ≡ printedBy (answerOf a) number out) × (r ≤ length out)
+  printed-refused x e out′ r h = (h ∙ ap (λ (a : Painted). printedBy (answerOf a) number out) (sym e), front-within _ _ h)
