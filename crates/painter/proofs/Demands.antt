@@ -2,13 +2,13 @@
 -- buffer are afterwards as `roomAfter` and `outAfter` say. These are theorems about those definitions.
 use mathlib.Core.Path.{_≡_, refl, sym, _∙_, ap}
 use mathlib.Core.Bool.{Bool, true, false}
-use mathlib.Core.List.{List}
+use mathlib.Core.List.{List, _++_}
 use mathlib.Core.Logic.{_↔_, _⊎_, inl, inr}
 use Prim.Native.Nat.{ℕ, _<_, _≤_}
 use native.Mathlib.Omega.{arith}
 use borrow.Author.Tests.{ltb-true, ltb-false}
 use lib.Dec.{T, ltb}
-use lib.ListN.{length}
+use lib.ListN.{length, drop}
 use Rattle.lexer.specs.Tokens.{Placed}
 use Rattle.value.specs.declared.value.Value.{Value}
 use Rattle.tree.specs.Tree.{Tree}
@@ -33,11 +33,12 @@ use Rattle.output.specs.Line.{paintedLine}
 use Rattle.output.specs.declared.line.Colouring.{Colouring}
 use Rattle.output.specs.declared.line.Colouring.the-variants.{None}
 use Rattle.painter.specs.Meaning.{showOf, colouringOf}
-use Rattle.painter.specs.Paint.{Answer, refusal, accepted, featuredBy, headed, paintedOf, outAfter}
+use Rattle.painter.specs.Paint.{Answer, refusal, accepted, featuredBy, headed, paintedOf, outAfter, printedLine, printedBy}
 use Rattle.painter.specs.Demand.{NoneFails, NoneTrue, workedOut, named, schemaText, ConformsTo, ReadsAs, Refused, RefusedAs, Passes, NoDefine, SomeLineFails}
 use Rattle.painter.specs.Arrays.{appliedOf}
 use Rattle.painter.proofs.Order as order
 use Rattle.painter.proofs.NoColour.{coloured}
+use Rattle.painter.proofs.Printed.{printed-line}
 use Rattle.painter.proofs.Sound as sound
 use Rattle.painter.proofs.Origins.{Origin, head-refused, refused-line, refused-origin, given-whole, given-schema}
 use Rattle.painter.proofs.Judged.{four-judged, verdictOf, seven-judged}
@@ -172,3 +173,7 @@ module _ (head room after : List ℕ) (t : Tables) (l : Leaves checked.Accepted 
 
   pub applied : appliedOf head t after feature number out ≡ (answer, outAfter answer number out)
   applied = by-size (ltb (length out) 32) refl
+
+  -- and what is printed for the feature, by `line` (src/print.rt) behind either, is its line, and every byte behind it as it came
+  pub printed : 72 ≤ length out → printedBy answer number (outAfter answer number out) ≡ (printedLine answer number ++ drop (length (printedLine answer number)) out, length (printedLine answer number))
+  printed = printed-line (length room) head number feature out

@@ -84,7 +84,12 @@ roomAfter bytes room = cond (isShort bytes (length room)) room (replicate (lengt
 
 -- ---- what is printed
 
--- The buffer, and how many of its first bytes are the feature's line: a painted one's stand there already, and a refused one's are written, if they fit.
+-- the line of a feature: `1→true→#00FF0080`, or `3→refused→9→5`
+abbrev pub printedLine : Answer → ℕ → List ℕ
+printedLine (refusal n l p) number = refusedFeature number n p
+printedLine (accepted show colouring bytes) number = paintedLine number show colouring
+
+-- The buffer after a call, and how many of its first bytes are that line: a painted one's stand there already, and a refused one's are written, if they fit.
 abbrev pub printedBy : Answer → ℕ → List ℕ → List ℕ × ℕ
 printedBy (refusal n l p) number out = front out (refusedFeature number n p)
 printedBy (accepted show colouring bytes) number out = (out, min bytes (length out))
