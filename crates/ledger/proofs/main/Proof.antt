@@ -1,7 +1,6 @@
 use borrow.Author.Needs.{needs}
 use Rattle.ledger.proofs.main.Statement.{statement}
 use Rattle.ledger.proofs.main.Tie as tie
-use Prim.Native.Nat.{_-_}
 use Rattle.io.proofs.Counting.{front}
 
 slice-aggregate-fill : tie.Need-slice-aggregate-fill

@@ -1,7 +1,6 @@
 use borrow.Author.Needs.{needs}
 use Rattle.ledger.proofs.print.Statement.{statement}
 use Rattle.ledger.proofs.print.Tie as tie
-use Prim.Native.Nat.{_-_}
 use Rattle.io.proofs.Counting.{front}
 
 head-end-requires : tie.Need-head-end-requires

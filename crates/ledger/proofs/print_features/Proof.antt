@@ -2,7 +2,6 @@ use borrow.Author.Needs.{needs}
 use Rattle.ledger.proofs.print_features.Statement.{statement}
 use Rattle.ledger.proofs.print_features.Tie as tie
 use native.Mathlib.Omega.{arith}
-use Prim.Native.Nat.{_-_}
 use Rattle.output.proofs.Law.Pages.{next-inside}
 
 slice-aggregate-text : tie.Need-slice-aggregate-text

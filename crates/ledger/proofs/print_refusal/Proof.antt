@@ -1,7 +1,6 @@
 use borrow.Author.Needs.{needs}
 use Rattle.ledger.proofs.print_refusal.Statement.{statement}
 use Rattle.ledger.proofs.print_refusal.Tie as tie
-use Prim.Native.Nat.{_-_}
 use Rattle.output.proofs.Law.Lines.{front-inside}
 use lib.Seq.{length-take-le}
 use mathlib.Core.Path.{sym}

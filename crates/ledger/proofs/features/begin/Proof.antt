@@ -2,7 +2,6 @@ use borrow.Author.Needs.{needs}
 use Rattle.ledger.proofs.features.begin.Statement.{statement}
 use Rattle.ledger.proofs.features.begin.Tie as tie
 use native.Mathlib.Omega.{arith}
-use Prim.Native.Nat.{_-_}
 use Rattle.text.proofs.Law.Parts.{end-within}
 
 end-requires : tie.Need-end-requires

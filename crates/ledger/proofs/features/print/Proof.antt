@@ -1,7 +1,6 @@
 use borrow.Author.Needs.{needs}
 use Rattle.ledger.proofs.features.print.Statement.{statement}
 use Rattle.ledger.proofs.features.print.Tie as tie
-use Prim.Native.Nat.{_-_}
 use Rattle.io.proofs.Counting.{front}
 
 all-lines-requires : tie.Need-all-lines-requires

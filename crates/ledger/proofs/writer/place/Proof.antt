@@ -1,7 +1,6 @@
 use borrow.Author.Needs.{needs}
 use Rattle.ledger.proofs.writer.place.Statement.{statement}
 use Rattle.ledger.proofs.writer.place.Tie as tie
-use Prim.Native.Nat.{_-_}
 use lib.Seq.{length-take-le}
 use mathlib.Core.Path.{sym}
 

@@ -1,7 +1,6 @@
 use borrow.Author.Needs.{needs}
 use Rattle.ledger_cases.proofs.case.made_agrees.Statement.{statement}
 use Rattle.ledger_cases.proofs.case.made_agrees.Tie as tie
-use Prim.Native.Nat.{_-_}
 use Rattle.io.proofs.Counting.{front}
 
 slice-aggregate-output : tie.Need-slice-aggregate-output

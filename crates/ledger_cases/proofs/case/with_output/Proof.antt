@@ -2,7 +2,6 @@ use borrow.Author.Needs.{needs}
 use Rattle.ledger_cases.proofs.case.with_output.Statement.{statement}
 use Rattle.ledger_cases.proofs.case.with_output.Tie as tie
 use native.Mathlib.Omega.{arith}
-use Prim.Native.Nat.{_-_}
 use Rattle.io.proofs.Counting.{front}
 
 number-requires : tie.Need-number-requires

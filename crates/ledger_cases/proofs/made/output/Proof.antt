@@ -2,7 +2,6 @@ use borrow.Author.Needs.{needs}
 use Rattle.ledger_cases.proofs.made.output.Statement.{statement}
 use Rattle.ledger_cases.proofs.made.output.Tie as tie
 use native.Mathlib.Omega.{arith}
-use Prim.Native.Nat.{_-_}
 use Rattle.io.proofs.Counting.{front}
 use Rattle.output.proofs.Law.Pages.{next-inside}
 

@@ -1,7 +1,6 @@
 use borrow.Author.Needs.{needs}
 use Rattle.ledger_cases.proofs.made.refused.Statement.{statement}
 use Rattle.ledger_cases.proofs.made.refused.Tie as tie
-use Prim.Native.Nat.{_-_}
 use Rattle.output.proofs.Law.Lines.{front-within}
 
 sub-refused-head : tie.Need-sub-refused-head
