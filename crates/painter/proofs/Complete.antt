@@ -134,7 +134,7 @@ by-syntax look want text tree h = rw h (by-kinds (checker.resultOf want (length 
 
 -- ---- an expression that passes the checks before its 7
 
-module _ (head : List ℕ) (small : length head ≤ 32768) (n : ℕ) (s : Style) (c : Scope) (want : Wanted) (text : List ℕ) (x : Passes head n s c want text) (is-plain : T (plain (x .tree)))
+module _ (slots : ℕ) (head : List ℕ) (n : ℕ) (s : Style) (c : Scope) (want : Wanted) (text : List ℕ) (x : Passes slots head n s c want text) (is-plain : T (plain (x .tree)))
     (none : NoDefine c s text (x .tree)) where
   whole : Whole s
   whole = given-whole (x .reached .stands .before) s (x .reached .stands .given)
@@ -166,7 +166,7 @@ module _ (head : List ℕ) (small : length head ≤ 32768) (n : ℕ) (s : Style)
       number = 1;
       feature = line;
       is-line = sample-line (worstOf (s .properties) (whole .declared));
-      conforms = conforms-reads head small s (reached-schema head n s c want text (x .reached)) 1 line .1 (values, reads);
+      conforms = conforms-reads head (x .size) s (reached-schema head n s c want text (x .reached)) 1 line .1 (values, reads);
       values = values;
       reads = reads;
       failing =

@@ -93,8 +93,10 @@ module _ (slots : ℕ) (enough : roomSize ≤ slots) (head : List ℕ) (small : 
 
   -- and no other strip is painted
   pub painted-only : (bytes : ℕ) → 32 ≤ bytes → (number : ℕ) (feature : List ℕ) (show : Bool) (colouring : Colouring) (k : ℕ) → paintedOf bytes slots head number feature ≡ accepted show colouring k →
-      (s : Style) × (vs : List Value) × (headOf head ≡ gives s) × ReadsAs s number feature vs
-  painted-only = order.paint-accepted slots enough head small
+      (checkedOf slots head ≡ style.accepted) × ConformsTo (schemaText head) number feature
+  painted-only bytes h number feature show colouring k e =
+      let (s, vs, is, reads) = order.paint-accepted slots enough head small bytes h number feature show colouring k e in
+      (order.check-accepted slots enough head small .1 (s, is), order.conforms-reads head small s (given-schema head s is) number feature .1 (vs, reads))
 
   module _ (s : Style) (is : headOf head ≡ gives s) (number : ℕ) (feature : List ℕ) (vs : List Value) (reads : ReadsAs s number feature vs) where
     -- ---- 2: exactly the show and colour that the written meaning gives
@@ -124,24 +126,24 @@ module _ (slots : ℕ) (head : List ℕ) where
   seven : (n p : ℕ) → checkedOf slots head ≡ style.refusal 7 n p → (roomSize ≤ slots) × (length head ≤ 32768)
   seven n p = order.line-refused slots head 7 n p (λ e. omega arith) (λ e. omega arith)
 
-  -- The call answers 7 at it (the place is its own, which tells it from the other expression of a `cond` line) exactly if it passes the checks before, 10 and the head's size among them, and some line that conforms makes it fail by itself.
-  pub seven-exactly : (n : ℕ) (s : Style) (c : Scope) (want : Wanted) (text : List ℕ) → ((x : Passes head n s c want text) → T (plain (x .tree)) × NoDefine c s text (x .tree)) →
+  -- The call answers 7 at it (the place is its own, which tells it from the other expression of a `cond` line) exactly if it passes the checks before and some line that conforms makes it fail by itself.
+  pub seven-exactly : (n : ℕ) (s : Style) (c : Scope) (want : Wanted) (text : List ℕ) → ((x : Passes slots head n s c want text) → T (plain (x .tree)) × NoDefine c s text (x .tree)) →
       ((p : ℕ) × (checkedOf slots head ≡ style.refusal 7 n p) × RefusedAs head 7 n p s c want text)
-      ↔ ((roomSize ≤ slots) × (length head ≤ 32768) × (x : Passes head n s c want text) × SomeLineFails head s want text (x .tree))
+      ↔ ((x : Passes slots head n s c want text) × SomeLineFails head s want text (x .tree))
   seven-exactly n s c want text such = (
     (λ r.
         let (p, e, at) = r in
         let (enough, small) = seven n p e in
         let (tree, is, kinds) = seven-judged (kindsIn c s) want text p (at .refused) in
-        let x : Passes head n s c want text = record { reached = at .reached; tree = tree; is = is } in
-        (enough, small, x, refused-exactly head small n s c want text x (such x .0) (such x .1) .0 (p, at))),
+        let x : Passes slots head n s c want text = record { room = enough; size = small; reached = at .reached; tree = tree; is = is } in
+        (x, refused-exactly slots head n s c want text x (such x .0) (such x .1) .0 (p, at))),
     (λ w.
-        let (enough, small, x, fails) = w in
-        let (p, at) = refused-exactly head small n s c want text x (such x .0) (such x .1) .1 fails in
-        (p, order.check-refused slots enough head small 7 n p .1 (head-refused head 7 n p s c want text at), at)),
+        let (x, fails) = w in
+        let (p, at) = refused-exactly slots head n s c want text x (such x .0) (such x .1) .1 fails in
+        (p, order.check-refused slots (x .room) head (x .size) 7 n p .1 (head-refused head 7 n p s c want text at), at)),
   )
 
-  -- Whatever is refused with 7 is such an expression of a line: it has passed the checks before, and the kinds of its tree are refused there.
+  -- Whatever is refused with 7 is an expression of a line: it has a tree, and the kinds of that are refused there.
   pub seven-where : (n p : ℕ) → checkedOf slots head ≡ style.refusal 7 n p →
       (o : Origin head 7 n p) × (tree : Tree) × (judgedOf (o .text) ≡ fine tree) × (verdictOf (kindsIn (o .scope) (o .style)) (o .want) (o .text) p tree ≡ verdict.Refused p)
   seven-where n p e = go (let (enough, small) = seven n p e in refused-why slots enough head small 7 n p e)

@@ -2,7 +2,7 @@
 use mathlib.Core.Path.{_≡_}
 use mathlib.Core.Bool.{Bool, true, false, cond}
 use mathlib.Core.List.{List, [], _∷_, _++_, map}
-use Prim.Native.Nat.{ℕ, suc}
+use Prim.Native.Nat.{ℕ, suc, _≤_}
 use lib.Dec.{T}
 use lib.ListN.{length, take}
 use Rattle.lexer.specs.Spelling.{All}
@@ -73,6 +73,7 @@ module _ (s : Style) (feature : List ℕ) (vs : List Value) where
 abbrev pub IsLine : List ℕ → Type 0
 IsLine feature = All isLineByte feature
 
+-- a line's word is `prop`
 abbrev pub isProperty : Line → Bool
 isProperty word.Prop = true
 isProperty word.Define = false
@@ -134,7 +135,7 @@ pub record Refused (head : List ℕ) (m n p : ℕ) : Type 0 where
   pub stands : LineAt head n style line
   pub said : lineSaid style line ≡ refused m p
 
--- an expression of a line, behind all that the order puts before its numbers 1 to 7
+-- an expression of a line: the lines before it, and of its own line what stands before it, are not refused
 pub record Reached (head : List ℕ) (n : ℕ) (s : Style) (c : Scope) (want : Wanted) (text : List ℕ) : Type 0 where
   pub line : List ℕ
   pub stands : LineAt head n s line
@@ -145,8 +146,10 @@ pub record RefusedAs (head : List ℕ) (m n p : ℕ) (s : Style) (c : Scope) (wa
   pub reached : Reached head n s c want text
   pub refused : expressionOf (kindsIn c s) want text ≡ judged.refused m p
 
--- "the checks before are all that the order puts before this expression's 7": it is reached, and its numbers 1 to 6 are passed with a tree
-pub record Passes (head : List ℕ) (n : ℕ) (s : Style) (c : Scope) (want : Wanted) (text : List ℕ) : Type 0 where
+-- "the checks before are all that the order puts before this expression's 7": 10, the size of the head, all before it in the lines, and its own 1 to 6, which are passed with a tree
+pub record Passes (slots : ℕ) (head : List ℕ) (n : ℕ) (s : Style) (c : Scope) (want : Wanted) (text : List ℕ) : Type 0 where
+  pub room : roomSize ≤ slots
+  pub size : length head ≤ 32768
   pub reached : Reached head n s c want text
   pub tree : Tree
   pub is : judgedOf text ≡ fine tree
