@@ -1,4 +1,4 @@
--- A set that is packed into a byte comes out of it again: one computed test over all sets.
+-- A set that is packed into a number comes out of it again: one computed test over all sets.
 use mathlib.Core.Path.{_≡_, refl}
 use mathlib.Core.Bool.{Bool, true, false, _&&_, Bool·beq, false≢true}
 use mathlib.Core.List.{List, [], _∷_, map}
@@ -15,7 +15,7 @@ use Rattle.kind.specs.Set.{has, setOf, everyOf}
 use Rattle.kind.specs.declared.kind.Kind.{Kind}
 use Rattle.kind.specs.declared.set.Kinds.{Kinds}
 use Rattle.kind.proofs.Law.Tests.{every-kind}
-use Rattle.checker.specs.Name.{noRow}
+use Rattle.plan.specs.Layout.{undeclared, setPlace}
 use Rattle.checker.specs.Property.{unpackedOf, packedOf, setAt}
 
 -- ---- tests over all sets
@@ -69,6 +69,6 @@ unfolding unpackedOf packedOf setOf
 unpacked-packed s = alike-is (unpackedOf (packedOf s)) s (each (λ bs. alike (unpackedOf (packedOf (set bs))) (set bs)) (truths s) tt)
 
 -- so the set of a number is the one that was stored for it
-pub set-stored : (sets : List ℕ) (n : ℕ) (s : Kinds) → n < length sets → n < noRow → setAt (list.set sets n (packedOf s)) n ≡ s
+pub set-stored : (plan : List ℕ) (n : ℕ) (s : Kinds) → setPlace n < length plan → n < undeclared → setAt (list.set plan (setPlace n) (packedOf s)) n ≡ s
 unfolding setAt
-set-stored sets n s room row = rw (lt-ltb n noRow row, getD-set-same sets n (packedOf s) 0 room) (unpacked-packed s)
+set-stored plan n s room row = rw (lt-ltb n undeclared row, getD-set-same plan (setPlace n) (packedOf s) 0 room) (unpacked-packed s)

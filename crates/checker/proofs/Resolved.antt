@@ -7,6 +7,7 @@ use native.Mathlib.Omega.{arith}
 use borrow.Author.Tests.{eqb-true, ltb-true}
 use lib.Dec.{ltb}
 use lib.ListN.{length}
+use Rattle.lexer.specs.Refusal.{fine}
 use Rattle.lexer.proofs.Law.Runs.{by-test}
 use Rattle.tree.specs.Tree.{Tree, Arguments, place}
 use Rattle.tree.specs.Tree as tree
@@ -46,7 +47,7 @@ use Rattle.syntax.specs.Grammar.{
   next,
 }
 use Rattle.syntax.specs.Height.{heightOf, heightOfAll}
-use Rattle.syntax.specs.Judge.{fine, judgedOf, slotsAfter}
+use Rattle.syntax.specs.Judge.{judgedOf, slotsAfter}
 use Rattle.syntax.proofs.Laid.{judged-fits, slots-hold}
 use Rattle.syntax.proofs.Grammar.Judged.{judged-fine}
 use Rattle.syntax.proofs.Law.Heights.{pruned-low}
@@ -69,8 +70,8 @@ row-below Define p = property-below p
 row-below Style p = by-test (λ (n : ℕ). n < 49) (ltb (firstRow p 16 32) 48) (λ e. omega (arith, ltb-true (firstRow p 16 32) 48 e)) (λ e. property-below p)
 
 -- There are 48 rows, and one number more for an undeclared name.
-pub number-below : (scope : Scope) (head starts ends name : List ℕ) → numberOf scope head starts ends name < 49
-number-below scope head starts ends name = row-below scope _
+pub number-below : (scope : Scope) (head names name : List ℕ) → numberOf scope head names name < 49
+number-below scope head names name = row-below scope _
 
 -- ---- a shape with its variables numbered
 

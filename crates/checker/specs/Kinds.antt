@@ -3,6 +3,7 @@ use mathlib.Core.Bool.{true, cond}
 use mathlib.Core.List.{List, [], _∷_}
 use Prim.Native.Nat.{ℕ}
 use lib.ListN.{getD}
+use Rattle.lexer.specs.Refusal.{refusalAt, Judged, refused, fine}
 use Rattle.kind.specs.Set.{setOf, singleOf, unionOf, withinOf}
 use Rattle.kind.specs.Choice.{nodeKinds}
 use Rattle.kind.specs.declared.kind.Kind.{Kind}
@@ -29,44 +30,44 @@ literalKind k = getD literalKinds k Undefined
 
 -- ---- a node
 
+-- "kinds, or a count of arguments", at a place
+abbrev pub wrongAt : ℕ → Verdict
+wrongAt p = Refused (refusalAt 7 p)
+
+abbrev pub after : Kinds → Judged (List Kinds) → Judged (List Kinds)
+after s (refused r) = refused r
+after s (fine ss) = fine (s ∷ ss)
+
 -- the first refusal of some parts, "left to right", or their sets
-pub data Gathered : Type 0 where
-  refusedAt : ℕ → Gathered
-  sets : List Kinds → Gathered
-
-abbrev pub after : Kinds → Gathered → Gathered
-after s (refusedAt p) = refusedAt p
-after s (sets ss) = sets (s ∷ ss)
-
-abbrev pub gathered : List Verdict → Gathered
-gathered [] = sets []
-gathered (Refused p ∷ vs) = refusedAt p
+abbrev pub gathered : List Verdict → Judged (List Kinds)
+gathered [] = fine []
+gathered (Refused r ∷ vs) = refused r
 gathered (Accepted s ∷ vs) = after s (gathered vs)
 
 -- a node's own answer, at its place
 abbrev pub placed : ℕ → Checked → Verdict
-placed p checked.Refused = Refused p
+placed p checked.Refused = wrongAt p
 placed p (checked.Accepted s) = Accepted s
 
 -- "the first by its parts before itself"; a name that is not known takes nothing
-abbrev pub operated : ℕ → Found → Gathered → Verdict
-operated p found (refusedAt q) = Refused q
-operated p (Known o) (sets ss) = placed p (nodeKinds o ss)
-operated p Unknown (sets ss) = Refused p
+abbrev pub operated : ℕ → Found → Judged (List Kinds) → Verdict
+operated p found (refused r) = Refused r
+operated p (Known o) (fine ss) = placed p (nodeKinds o ss)
+operated p Unknown (fine ss) = wrongAt p
 
 abbrev pub nodeOf : ℕ → Found → List Verdict → Verdict
 nodeOf p found vs = operated p found (gathered vs)
 
 -- "the test of `? :`: Boolean", "a conditional both branches' sets"
 abbrev pub conditionalOf : ℕ → Verdict → Verdict → Verdict → Verdict
-conditionalOf p (Refused q) a b = Refused q
-conditionalOf p (Accepted t) (Refused q) b = Refused q
-conditionalOf p (Accepted t) (Accepted a) (Refused q) = Refused q
-conditionalOf p (Accepted t) (Accepted a) (Accepted b) = cond (withinOf t (singleOf Boolean)) (Accepted (unionOf a b)) (Refused p)
+conditionalOf p (Refused r) a b = Refused r
+conditionalOf p (Accepted t) (Refused r) b = Refused r
+conditionalOf p (Accepted t) (Accepted a) (Refused r) = Refused r
+conditionalOf p (Accepted t) (Accepted a) (Accepted b) = cond (withinOf t (singleOf Boolean)) (Accepted (unionOf a b)) (wrongAt p)
 
 -- ---- an expression
 
--- The set of an expression, or the place of its refusal. The look-up gives the set of a variable, from its place and its number. Both branches of a conditional and both sides of `&&` and `||` are looked at:
+-- The set of an expression, or its refusal. The look-up gives the set of a variable, from its place and its number. Both branches of a conditional and both sides of `&&` and `||` are looked at:
 -- "branches never worked out are checked too".
 unfoldable mutual
   pub kindsOf : (ℕ → ℕ → Kinds) → Tree → Verdict
@@ -93,5 +94,5 @@ takenBy wanted.Any = setOf (λ k. true)
 
 -- "the end, for a wrong result"
 abbrev pub resultOf : Wanted → ℕ → Verdict → Verdict
-resultOf want end (Refused p) = Refused p
-resultOf want end (Accepted s) = cond (withinOf s (takenBy want)) (Accepted s) (Refused end)
+resultOf want end (Refused r) = Refused r
+resultOf want end (Accepted s) = cond (withinOf s (takenBy want)) (Accepted s) (wrongAt end)

@@ -11,6 +11,8 @@ use Rattle.lexer.specs.declared.token.Token.{Token}
 use Rattle.lexer.specs.declared.token.Token.the-variants.{Number, String, Variable, Word, Punctuator}
 use Rattle.lexer.specs.declared.token.Lexeme.{Lexeme}
 use Rattle.lexer.specs.declared.token.Lexeme.the-variants.{Found, Bad, End}
+use Rattle.plan.specs.Layout.{mostProperties, mostDefines, firstDefine, undeclared}
+use Rattle.plan.specs.Layout as layout
 use Rattle.tree.specs.Tree.{Tree, literal, variable, unary, binary, conditional, bare, call, pick, Arguments, last, next}
 use Rattle.tree.specs.Slots.{put, variableTag}
 use Rattle.checker.specs.declared.name.Scope.{Scope}
@@ -34,19 +36,9 @@ nameAt text at = nameIn text at (endOf (lexemeAt text at))
 
 -- ---- the numbers of names
 
--- Names stand in 48 rows: "32 properties", then "16 defines". A row is where its name lies in the head; one that is not used is empty.
-abbrev pub properties : ℕ
-properties = 32
-
-abbrev pub defines : ℕ
-defines = 16
-
--- behind the last row
-abbrev pub noRow : ℕ
-noRow = 48
-
-abbrev pub rowAt : List ℕ → List ℕ → List ℕ → ℕ → List ℕ
-rowAt head starts ends i = slice (getD starts i 0) (getD ends i 0) head
+-- A name that has a number is known by where it lies in the head; one that is not used is empty.
+abbrev pub rowAt : List ℕ → List ℕ → ℕ → List ℕ
+rowAt head names i = slice (getD names (layout.startOf i) 0) (getD names (layout.endOf i) 0) head
 
 -- the first of n rows from i on that is as asked, or the row behind them
 unfoldable pub firstRow : (ℕ → Bool) → ℕ → ℕ → ℕ
@@ -56,17 +48,17 @@ firstRow p (suc n) i = elim (p i) [ true ↦ i | false ↦ firstRow p n (suc i) 
 -- a property's row, or none for an undeclared name
 unfoldable pub propertyRow : (ℕ → Bool) → ℕ
 unfolding firstRow
-propertyRow p = let i = firstRow p properties 0 in cond (ltb i properties) i noRow
+propertyRow p = let i = firstRow p mostProperties 0 in cond (ltb i mostProperties) i undeclared
 
 -- "inside a define every name is a property"; elsewhere "a define hides a property of its name"
 unfoldable pub rowIn : Scope → (ℕ → Bool) → ℕ
 unfolding firstRow propertyRow
 rowIn Define p = propertyRow p
-rowIn Style p = let i = firstRow p defines properties in cond (ltb i noRow) i (propertyRow p)
+rowIn Style p = let i = firstRow p mostDefines firstDefine in cond (ltb i undeclared) i (propertyRow p)
 
 -- the number of a name is that of its row
-abbrev pub numberOf : Scope → List ℕ → List ℕ → List ℕ → List ℕ → ℕ
-numberOf scope head starts ends name = rowIn scope (λ i. same name (rowAt head starts ends i))
+abbrev pub numberOf : Scope → List ℕ → List ℕ → List ℕ → ℕ
+numberOf scope head names name = rowIn scope (λ i. same name (rowAt head names i))
 
 -- ---- every variable of a text gets its name's number
 

@@ -8,7 +8,7 @@ use Rattle.kind.specs.Set.{setOf, singleOf, unionOf}
 use Rattle.kind.specs.declared.kind.Kind.{Kind}
 use Rattle.kind.specs.declared.kind.Kind.the-variants.{Undefined, Null}
 use Rattle.kind.specs.declared.set.Kinds.{Kinds}
-use Rattle.checker.specs.Name.{noRow}
+use Rattle.plan.specs.Layout as layout
 
 -- what a name stands for, if it is no define: nothing that is declared, or a property with its type, and whether it may be absent and may be null
 pub data Property : Type 0 where
@@ -25,7 +25,7 @@ propertyKinds (declared t absent null) = unionOf (singleOf t) (unionOf (onlyIf a
 
 -- ---- sets by the numbers of names
 
--- A set lies in a byte, a bit for each kind, the lowest for the first kind of page 01's list.
+-- A set lies in a number, a bit for each kind, the lowest for the first kind of page 01's list.
 unfoldable pub unpackedOf : ℕ → Kinds
 unpackedOf b =
     record {
@@ -46,7 +46,7 @@ unfoldable pub packedOf : Kinds → ℕ
 packedOf s =
     bit (s .undefined) 1 + (bit (s .null) 2 + (bit (s .boolean) 4 + (bit (s .number) 8 + (bit (s .string) 16 + (bit (s .vec2) 32 + (bit (s .vec3) 64 + bit (s .vec4) 128))))))
 
--- the set of a number; any other than those of the rows is an undeclared name's
+-- the set of a name's number, in the plan; an undeclared name has none there
 unfoldable pub setAt : List ℕ → ℕ → Kinds
 unfolding unpackedOf
-setAt sets n = cond (ltb n noRow) (unpackedOf (getD sets n 0)) (singleOf Undefined)
+setAt plan n = cond (ltb n layout.undeclared) (unpackedOf (getD plan (layout.setPlace n) 0)) (singleOf Undefined)

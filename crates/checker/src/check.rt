@@ -4,8 +4,8 @@ ghost use mathlib.Core.List.{_∷_, []};
 ghost use Rattle.kind.specs.Set.{singleOf};
 ghost use Rattle.tree.specs.Node.{treeAt, argumentsAt};
 ghost use Rattle.checker.specs.Property.{setAt};
-ghost use Rattle.checker.specs.Kinds.{literalKind, placed, nodeOf, conditionalOf, kindsOfAll, takenBy};
-ghost use Rattle.checker.specs.Check.{kindsAt, checkedAt};
+ghost use Rattle.checker.specs.Kinds.{wrongAt, literalKind, placed, nodeOf, conditionalOf, kindsOfAll, takenBy};
+ghost use Rattle.checker.specs.Check.{kindsAt, checkedAt, answerOf};
 ghost use Rattle.checker.specs.declared.check.Verdict.the-variants.{Accepted};
 ghost use Rattle.checker.specs.Inner.{withOne, withAll, nodeBy};
 use crate::operator::infix_at;
@@ -16,6 +16,8 @@ use kind::choice::Parts;
 use kind::choice::node_kinds;
 use kind::choice::with;
 use kind::set::Kinds;
+use lexer::refusal::Refusal;
+use plan::layout::Plan;
 use syntax::judge::MOST_HEIGHT;
 use tree::node::Argument;
 use tree::node::MOST_COMMAS;
@@ -26,9 +28,9 @@ use value::name::Found;
 use value::name::function_at;
 use value::name::pick_at;
 
-// What the checker says of an expression: its set of kinds, or the place of its first refused node.
+// What the checker says of an expression: its set of kinds, or the refusal of its first wrong node.
 pub enum Verdict {
-    Refused(usize),
+    Refused(Refusal),
     Accepted(Kinds),
 }
 
@@ -41,7 +43,7 @@ pub enum Wanted {
 
 // What is known of a node's parts: the first refusal, or their sets.
 enum Checks {
-    Refused(usize),
+    Refused(Refusal),
     Sets(Parts),
 }
 
@@ -67,19 +69,26 @@ fn with_one(checks: Checks, verdict: Verdict) -> Checks
     ensures { λ r. ⌜ r ≡ withOne checks verdict ⌝ }
 {
     match checks {
-        Checks::Refused(place) => Checks::Refused(place),
+        Checks::Refused(refusal) => Checks::Refused(refusal),
         Checks::Sets(parts) => match verdict {
-            Verdict::Refused(place) => Checks::Refused(place),
+            Verdict::Refused(refusal) => Checks::Refused(refusal),
             Verdict::Accepted(set) => Checks::Sets(with(parts, set)),
         },
     }
+}
+
+// 7, at a place.
+fn wrong_at(place: usize) -> Verdict
+    ensures { λ r. ⌜ r ≡ wrongAt place ⌝ }
+{
+    Verdict::Refused(Refusal { number: 7, place })
 }
 
 fn place(at: usize, checked: Checked) -> Verdict
     ensures { λ r. ⌜ r ≡ placed at checked ⌝ }
 {
     match checked {
-        Checked::Refused => Verdict::Refused(at),
+        Checked::Refused => wrong_at(at),
         Checked::Accepted(set) => Verdict::Accepted(set),
     }
 }
@@ -89,10 +98,10 @@ fn node(at: usize, found: Found, checks: Checks) -> Verdict
     ensures { λ r. ⌜ r ≡ nodeBy at found checks ⌝ }
 {
     match checks {
-        Checks::Refused(place) => Verdict::Refused(place),
+        Checks::Refused(refusal) => Verdict::Refused(refusal),
         Checks::Sets(parts) => match found {
             Found::Known(operation) => place(at, node_kinds(operation, parts)),
-            Found::Unknown => Verdict::Refused(at),
+            Found::Unknown => wrong_at(at),
         },
     }
 }
@@ -126,7 +135,7 @@ fn branches(at: usize, test: Kinds, first: Kinds, second: Kinds) -> Verdict
     if test.is_within(Kinds::BOOLEAN) {
         Verdict::Accepted(first.union(second))
     } else {
-        Verdict::Refused(at)
+        wrong_at(at)
     }
 }
 
@@ -134,11 +143,11 @@ fn conditional(at: usize, test: Verdict, first: Verdict, second: Verdict) -> Ver
     ensures { λ r. ⌜ r ≡ conditionalOf at test first second ⌝ }
 {
     match test {
-        Verdict::Refused(place) => Verdict::Refused(place),
+        Verdict::Refused(refusal) => Verdict::Refused(refusal),
         Verdict::Accepted(t) => match first {
-            Verdict::Refused(place) => Verdict::Refused(place),
+            Verdict::Refused(refusal) => Verdict::Refused(refusal),
             Verdict::Accepted(a) => match second {
-                Verdict::Refused(place) => Verdict::Refused(place),
+                Verdict::Refused(refusal) => Verdict::Refused(refusal),
                 Verdict::Accepted(b) => branches(at, t, a, b),
             },
         },
@@ -147,10 +156,10 @@ fn conditional(at: usize, test: Verdict, first: Verdict, second: Verdict) -> Ver
 
 // ---- the tree
 
-// The kinds of the tree at a place, as deep as an allowance goes. The bytes of sets are those of the
+// The kinds of the tree at a place, as deep as an allowance goes. The plan has the sets of the
 // variables' numbers.
-fn kinds(slots: &[u16], sets: &[u8; 48], at: usize, allowance: usize) -> Verdict
-    ensures { λ r. ⌜ r ≡ kindsAt (now (slots .entry)) (now (sets .entry)) at allowance ⌝ }
+fn kinds(slots: &[u16], plan: &Plan, at: usize, allowance: usize) -> Verdict
+    ensures { λ r. ⌜ r ≡ kindsAt (now (slots .entry)) (now (plan .entry)) at allowance ⌝ }
 {
     if allowance == 0 {
         return Verdict::Accepted(Kinds::NUMBER);
@@ -158,17 +167,17 @@ fn kinds(slots: &[u16], sets: &[u8; 48], at: usize, allowance: usize) -> Verdict
     let rest = allowance - 1;
     match node_at(slots, at) {
         Node::Literal(form) => Verdict::Accepted(literal_kinds(form)),
-        Node::Variable(number) => Verdict::Accepted(set_at(sets, number)),
+        Node::Variable(number) => Verdict::Accepted(set_at(plan, number)),
         Node::Unary { operator, part } => {
-            node1(at, prefix_at(operator), kinds(slots, sets, part, rest))
+            node1(at, prefix_at(operator), kinds(slots, plan, part, rest))
         }
         Node::Binary {
             operator,
             left,
             right,
         } => {
-            let first = kinds(slots, sets, left, rest);
-            let second = kinds(slots, sets, right, rest);
+            let first = kinds(slots, plan, left, rest);
+            let second = kinds(slots, plan, right, rest);
             node2(at, infix_at(operator), first, second)
         }
         Node::Conditional {
@@ -177,9 +186,9 @@ fn kinds(slots: &[u16], sets: &[u8; 48], at: usize, allowance: usize) -> Verdict
             first,
             second,
         } => {
-            let t = kinds(slots, sets, test, rest);
-            let a = kinds(slots, sets, first, rest);
-            let b = kinds(slots, sets, second, rest);
+            let t = kinds(slots, plan, test, rest);
+            let a = kinds(slots, plan, first, rest);
+            let b = kinds(slots, plan, second, rest);
             conditional(at, t, a, b)
         }
         Node::Bare { function } => node0(at, function_at(function)),
@@ -188,32 +197,32 @@ fn kinds(slots: &[u16], sets: &[u8; 48], at: usize, allowance: usize) -> Verdict
             arguments,
         } => {
             let none = Checks::Sets(Parts::None);
-            let checks = all_kinds(slots, sets, arguments, rest, MOST_COMMAS, none);
+            let checks = all_kinds(slots, plan, arguments, rest, MOST_COMMAS, none);
             node(at, function_at(function), checks)
         }
-        Node::Pick { index, part } => { node1(at, pick_at(index), kinds(slots, sets, part, rest)) }
+        Node::Pick { index, part } => { node1(at, pick_at(index), kinds(slots, plan, part, rest)) }
     }
 }
 
 // What is known of some parts and then of the arguments at a place, with some commas at most.
 fn all_kinds(
     slots: &[u16],
-    sets: &[u8; 48],
+    plan: &Plan,
     at: usize,
     allowance: usize,
     commas: usize,
     before: Checks,
 ) -> Checks
-    ensures { λ r. ⌜ r ≡ withAll before (kindsOfAll (λ p n. setAt (now (sets .entry)) n) (argumentsAt (treeAt allowance (now (slots .entry))) commas (now (slots .entry)) at)) ⌝ }
+    ensures { λ r. ⌜ r ≡ withAll before (kindsOfAll (λ p n. setAt (now (plan .entry)) n) (argumentsAt (treeAt allowance (now (slots .entry))) commas (now (slots .entry)) at)) ⌝ }
 {
     if commas == 0 {
-        return with_one(before, kinds(slots, sets, at, allowance));
+        return with_one(before, kinds(slots, plan, at, allowance));
     }
     match argument_at(slots, at) {
-        Argument::Last => with_one(before, kinds(slots, sets, at, allowance)),
+        Argument::Last => with_one(before, kinds(slots, plan, at, allowance)),
         Argument::Next { first, rest } => {
-            let known = with_one(before, kinds(slots, sets, first, allowance));
-            all_kinds(slots, sets, rest, allowance, commas - 1, known)
+            let known = with_one(before, kinds(slots, plan, first, allowance));
+            all_kinds(slots, plan, rest, allowance, commas - 1, known)
         }
     }
 }
@@ -232,16 +241,16 @@ fn taken(wanted: Wanted) -> Kinds
 
 // The kinds of the tree at a place, if they are wanted; a wrong result is refused at the end of the
 // expression.
-pub fn check(slots: &[u16], sets: &[u8; 48], root: usize, wanted: Wanted, end: usize) -> Verdict
-    ensures { λ r. ⌜ r ≡ checkedAt (now (slots .entry)) (now (sets .entry)) root wanted end ⌝ }
+pub fn check(slots: &[u16], plan: &Plan, root: usize, wanted: Wanted, end: usize) -> Verdict
+    ensures { λ r. ⌜ answerOf r ≡ checkedAt (now (slots .entry)) (now (plan .entry)) root wanted end ⌝ }
 {
-    match kinds(slots, sets, root, MOST_HEIGHT) {
-        Verdict::Refused(place) => Verdict::Refused(place),
+    match kinds(slots, plan, root, MOST_HEIGHT) {
+        Verdict::Refused(refusal) => Verdict::Refused(refusal),
         Verdict::Accepted(set) => {
             if set.is_within(taken(wanted)) {
                 Verdict::Accepted(set)
             } else {
-                Verdict::Refused(end)
+                wrong_at(end)
             }
         }
     }

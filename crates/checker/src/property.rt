@@ -1,10 +1,12 @@
-// The kinds that a name stands for, and how the sets of all names lie in bytes.
+// The kinds that a name stands for, and how the sets of all names lie in the plan.
 ghost use mathlib.Core.Path.{_≡_};
 ghost use Prim.Native.Nat.{_≤_};
 ghost use Rattle.checker.specs.Property.{declared, onlyIf, propertyKinds, unpackedOf, bit, packedOf, setAt};
-use crate::name::ROWS;
 use kind::kind::Kind;
 use kind::set::Kinds;
+use plan::layout::Plan;
+use plan::layout::SETS;
+use plan::layout::UNDECLARED;
 
 fn only_if(may: bool, kind: Kind) -> Kinds
     ensures { λ r. ⌜ r ≡ onlyIf may kind ⌝ }
@@ -24,30 +26,30 @@ pub fn kinds(kind: Kind, absent: bool, null: bool) -> Kinds
     Kinds::single(kind).union(lacking)
 }
 
-fn unpacked(byte: u8) -> Kinds
-    ensures { λ r. ⌜ r ≡ unpackedOf byte ⌝ }
+fn unpacked(packed: u16) -> Kinds
+    ensures { λ r. ⌜ r ≡ unpackedOf packed ⌝ }
 {
     Kinds {
-        undefined: byte % 2 == 1,
-        null: byte / 2 % 2 == 1,
-        boolean: byte / 4 % 2 == 1,
-        number: byte / 8 % 2 == 1,
-        string: byte / 16 % 2 == 1,
-        vec2: byte / 32 % 2 == 1,
-        vec3: byte / 64 % 2 == 1,
-        vec4: byte / 128 % 2 == 1,
+        undefined: packed % 2 == 1,
+        null: packed / 2 % 2 == 1,
+        boolean: packed / 4 % 2 == 1,
+        number: packed / 8 % 2 == 1,
+        string: packed / 16 % 2 == 1,
+        vec2: packed / 32 % 2 == 1,
+        vec3: packed / 64 % 2 == 1,
+        vec4: packed / 128 % 2 == 1,
     }
 }
 
-fn bit(set: bool, weight: u8) -> u8
+fn bit(set: bool, weight: u16) -> u16
     ensures is { λ r. ⌜ r ≡ bit set weight ⌝ }
     ensures most { λ r. ⌜ r ≤ weight ⌝ }
 {
     if set { weight } else { 0 }
 }
 
-// The byte of a set, a bit for each kind.
-pub fn packed(set: Kinds) -> u8
+// The number of a set, a bit for each kind.
+pub fn packed(set: Kinds) -> u16
     ensures { λ r. ⌜ r ≡ packedOf set ⌝ }
 {
     let vectors = bit(set.vec2, 32) + (bit(set.vec3, 64) + bit(set.vec4, 128));
@@ -55,13 +57,12 @@ pub fn packed(set: Kinds) -> u8
     bit(set.undefined, 1) + (bit(set.null, 2) + plain)
 }
 
-// The set of a name's number, from the bytes of all sets. A number that has none is an undeclared
-// name's.
-pub fn set_at(sets: &[u8; 48], number: usize) -> Kinds
-    ensures { λ r. ⌜ r ≡ setAt (now (sets .entry)) number ⌝ }
+// The set of a name's number. A number that has none in the plan is an undeclared name's.
+pub fn set_at(plan: &Plan, number: usize) -> Kinds
+    ensures { λ r. ⌜ r ≡ setAt (now (plan .entry)) number ⌝ }
 {
-    if number < ROWS {
-        unpacked(sets[number])
+    if number < UNDECLARED {
+        unpacked(plan[SETS + number])
     } else {
         Kinds::UNDEFINED
     }

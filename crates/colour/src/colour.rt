@@ -11,6 +11,12 @@ pub struct Colour {
     pub alpha: f64,
 }
 
+// The colour of a feature, or none.
+pub enum Colouring {
+    None,
+    Of(Colour),
+}
+
 // A colour as it is shown.
 pub struct Rgba8 {
     pub red: u8,

@@ -10,6 +10,8 @@ use lib.Ieee.Bits.{is-true}
 use lib.Ieee.Fits.{and-l, and-r}
 use lib.ListN.{length}
 use Rattle.number.specs.Arithmetic.{nought}
+use Rattle.lexer.specs.Refusal.{Judged, fine}
+use Rattle.lexer.specs.Refusal as judged
 use Rattle.kind.specs.Kind.{eqKind}
 use Rattle.kind.specs.Rule.{ruleOf}
 use Rattle.kind.specs.Set.{has, setOf, singleOf, unionOf, withinOf}
@@ -40,7 +42,8 @@ use Rattle.value.proofs.Kinded.{ruled, kinded}
 use Rattle.tree.specs.Tree.{Tree, literal, variable, unary, binary, conditional, bare, call, pick, Arguments, last, next}
 use Rattle.checker.specs.Operator.{prefixAt, infixAt, or, and}
 use Rattle.checker.specs.Property.{Property, undeclared, declared, onlyIf, propertyKinds}
-use Rattle.checker.specs.Kinds.{literalKind, Gathered, refusedAt, sets, after, gathered, placed, operated, nodeOf, kindsOf, kindsOfAll, takenBy, resultOf}
+use Rattle.checker.specs.Kinds.{literalKind, wrongAt, after, gathered, placed, operated, nodeOf, kindsOf, kindsOfAll, takenBy, resultOf}
+use Rattle.checker.specs.Check.{answerOf}
 use Rattle.checker.specs.declared.check.Verdict.{Verdict}
 use Rattle.checker.specs.declared.check.Verdict.the-variants.{Refused, Accepted}
 use Rattle.checker.specs.declared.check.Wanted.{Wanted}
@@ -116,9 +119,9 @@ Lows (s ∷ ss) [] = ⊥
 Lows (s ∷ ss) (v ∷ vs) = Low s v × Lows ss vs
 
 -- parts that are all accepted come to low values, unless one of them faults
-abbrev PartsFall : Gathered → List Outcome → Type 0
-PartsFall (refusedAt p) os = T (someFault os)
-PartsFall (sets ss) os = someFault os ≡ false → Lows ss (map valueIn os)
+abbrev PartsFall : Judged (List Kinds) → List Outcome → Type 0
+PartsFall (judged.refused p) os = T (someFault os)
+PartsFall (fine ss) os = someFault os ≡ false → Lows ss (map valueIn os)
 
 -- ---- a choice of kinds beside low values
 
@@ -183,21 +186,21 @@ node-falls text p o ss vs l = go (nodeKinds o ss) refl (meaning text o vs) (kind
         inr (λ k h. let c = accepted o ss s e k .0 h in
         ⊎-elim (λ x. absurd (subst Given (f ∙ x) tt)) (λ g. ap (givenKind k) (sym (c .2) ∙ g ∙ sym f)) (settled o ss vs (c .0) l (c .1)))
 
-operated-falls : (text : Span → List ℕ) (p : ℕ) (found : Found) (ps : Gathered) (os : List Outcome) → PartsFall ps os →
+operated-falls : (text : Span → List ℕ) (p : ℕ) (found : Found) (ps : Judged (List Kinds)) (os : List Outcome) → PartsFall ps os →
     Falls (operated p found ps) (applied text found os)
-operated-falls text p Unknown (refusedAt q) os h = refl
-operated-falls text p (Known o) (refusedAt q) os h = rw (is-true (someFault os) h)
-operated-falls text p Unknown (sets ss) os h = refl
-operated-falls text p (Known o) (sets ss) os h = go (someFault os) refl
+operated-falls text p Unknown (judged.refused q) os h = refl
+operated-falls text p (Known o) (judged.refused q) os h = rw (is-true (someFault os) h)
+operated-falls text p Unknown (fine ss) os h = refl
+operated-falls text p (Known o) (fine ss) os h = go (someFault os) refl
   where
     go : (b : Bool) → someFault os ≡ b → Falls (placed p (nodeKinds o ss)) (cond b Fault (meaning text o (map valueIn os)))
     go true e = fault-falls p (nodeKinds o ss)
     go false e = node-falls text p o ss (map valueIn os) (h e)
 
-after-falls : (s : Kinds) (ps : Gathered) (o : Outcome) (os : List Outcome) → Falls (Accepted s) o → PartsFall ps os → PartsFall (after s ps) (o ∷ os)
-after-falls s (refusedAt p) o os h hs = or-r (isFault o) (someFault os) hs
-after-falls s (sets ss) Fault os h hs = λ e. absurd (true≢false e)
-after-falls s (sets ss) (Worked v) os h hs = λ e. (h, hs e)
+after-falls : (s : Kinds) (ps : Judged (List Kinds)) (o : Outcome) (os : List Outcome) → Falls (Accepted s) o → PartsFall ps os → PartsFall (after s ps) (o ∷ os)
+after-falls s (judged.refused p) o os h hs = or-r (isFault o) (someFault os) hs
+after-falls s (fine ss) Fault os h hs = λ e. absurd (true≢false e)
+after-falls s (fine ss) (Worked v) os h hs = λ e. (h, hs e)
 
 gathered-falls : (bs : List Verdict) (os : List Outcome) → AllFall bs os → PartsFall (gathered bs) os
 gathered-falls [] [] h = λ e. tt
@@ -249,12 +252,12 @@ low-within wanted.Any s v (inl x) h = is-within s (setOf (λ k. true)) (λ k m. 
 low-within wanted.Boolean s v (inl x) h = absurd (taken-lacks kind.Boolean v h x)
 low-within wanted.Vec4 s v (inl x) h = absurd (taken-lacks kind.Vec4 v h x)
 
-pub result-fails : (want : Wanted) (end : ℕ) (a : Verdict) (o : Outcome) → Falls a o → T (isRefused (resultOf want end a)) → T (fails want o)
+pub result-fails : (want : Wanted) (end : ℕ) (a : Verdict) (o : Outcome) → Falls a o → T (isRefused (answerOf (resultOf want end a))) → T (fails want o)
 result-fails want end (Refused p) o h r = subst (λ (o : Outcome). T (fails want o)) (sym h) tt
 result-fails want end (Accepted s) Fault h r = tt
 result-fails want end (Accepted s) (Worked v) h r = not-T (has (takenBy want) (kindOf v)) (λ m. go (withinOf s (takenBy want)) (low-within want s v h m) r)
   where
-    go : (w : Bool) → T w → T (isRefused (cond w (Accepted s) (Refused end))) → ⊥
+    go : (w : Bool) → T w → T (isRefused (answerOf (cond w (Accepted s) (wrongAt end)))) → ⊥
     go true h r = r
     go false h r = h
 
@@ -296,7 +299,7 @@ module _ {N : Type 0} (name : ℕ → ℕ → N) (properties : N → Property) (
   with-values values = record { text = text; literals = literals; variables = λ p n. Worked (values (name p n)) }
 
   -- a refused expression fails at any values that are worst for its own variables
-  pub worst-fails : (values : N → Value) → Variables (λ p n. Worst (properties (name p n)) (values (name p n))) e → T (isRefused (resultOf want end (kindsOf look e))) →
+  pub worst-fails : (values : N → Value) → Variables (λ p n. Worst (properties (name p n)) (values (name p n))) e → T (isRefused (answerOf (resultOf want end (kindsOf look e)))) →
       T (fails want (evalOf (with-values values) e))
   worst-fails values worst =
       result-fails want end (kindsOf look e) (evalOf (with-values values) e)
@@ -304,18 +307,18 @@ module _ {N : Type 0} (name : ℕ → ℕ → N) (properties : N → Property) (
       (both-variables (λ p n s w. subst (λ (s : Kinds). Low s (values (name p n))) (sym s) (worst-low (properties (name p n)) (values (name p n)) w)) e looked worst))
 
   -- so it is refused exactly if it fails at some values that the properties may have
-  pub exactly : T (isRefused (resultOf want end (kindsOf look e)))
+  pub exactly : T (isRefused (answerOf (resultOf want end (kindsOf look e))))
       ↔ ((values : N → Value) × ((x : N) → Allowed (properties x) (values x)) × T (fails want (evalOf (with-values values) e)))
   exactly = (
     (λ r. ((λ x. worst x .0), (λ x. worst-allowed (properties x) (worst x .0) (worst x .1)), worst-fails (λ x. worst x .0) (each-variable (λ p n s. worst (name p n) .1) e looked) r)),
-    (λ w. go (w .0) (w .1) (w .2) (isRefused (resultOf want end (kindsOf look e))) refl),
+    (λ w. go (w .0) (w .1) (w .2) (isRefused (answerOf (resultOf want end (kindsOf look e)))) refl),
   )
     where
       worst : (x : N) → (v : Value) × Worst (properties x) v
       worst x = some-worst (properties x)
 
       go : (values : N → Value) → ((x : N) → Allowed (properties x) (values x)) → T (fails want (evalOf (with-values values) e)) →
-          (b : Bool) → isRefused (resultOf want end (kindsOf look e)) ≡ b → T b
+          (b : Bool) → isRefused (answerOf (resultOf want end (kindsOf look e))) ≡ b → T b
       go values allowed f true r = tt
       go values allowed f false r =
           subst T (never-fails (with-values values) look kinds e

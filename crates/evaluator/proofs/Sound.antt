@@ -7,6 +7,7 @@ use borrow.Author.Tests.{eqb-true}
 use lib.Dec.{T, eqb}
 use lib.Ieee.Bits.{is-true}
 use lib.Ieee.Fits.{and-l, and-r}
+use Rattle.lexer.specs.Refusal.{Judged, refused, fine}
 use Rattle.kind.specs.Kind.{eqKind}
 use Rattle.kind.specs.Rule.{Signature, signatures, ofLogic, ruledBy, ruleOf}
 use Rattle.kind.specs.Set.{has, singleOf, unionOf, withinOf}
@@ -36,8 +37,9 @@ use Rattle.value.specs.declared.value.Value.the-variants as value
 use Rattle.value.proofs.Kinded.{ruled, kinded}
 use Rattle.tree.specs.Tree.{Tree, literal, variable, unary, binary, conditional, bare, call, pick, Arguments, last, next}
 use Rattle.checker.specs.Operator.{prefixAt, infixAt, or, and}
-use Rattle.checker.specs.Kinds.{Gathered, refusedAt, sets, after, gathered, placed, operated, nodeOf, conditionalOf}
+use Rattle.checker.specs.Kinds.{wrongAt, after, gathered, placed, operated, nodeOf, conditionalOf}
 use Rattle.checker.specs.Kinds.{literalKind, kindsOf, kindsOfAll, takenBy, resultOf}
+use Rattle.checker.specs.Check.{answerOf}
 use Rattle.checker.specs.declared.check.Verdict.{Verdict}
 use Rattle.checker.specs.declared.check.Verdict.the-variants.{Refused, Accepted}
 use Rattle.checker.specs.declared.check.Wanted.{Wanted}
@@ -58,9 +60,9 @@ Sounds (a ∷ bs) [] = ⊥
 Sounds (a ∷ bs) (o ∷ os) = Sound a o × Sounds bs os
 
 -- parts that are all accepted meet no fault, and the kinds of their values are a choice from their sets
-abbrev SoundParts : Gathered → List Outcome → Type 0
-SoundParts (refusedAt p) os = Unit {0}
-SoundParts (sets ss) os = (someFault os ≡ false) × Among ss (map kindOf (map valueIn os))
+abbrev SoundParts : Judged (List Kinds) → List Outcome → Type 0
+SoundParts (refused p) os = Unit {0}
+SoundParts (fine ss) os = (someFault os ≡ false) × Among ss (map kindOf (map valueIn os))
 
 widened : (s t : Kinds) (o : Outcome) → ((k : Kind) → T (has s k) → T (has t k)) → Conforms s o → Conforms t o
 widened s t Fault w h = h
@@ -75,9 +77,9 @@ not-refused s e = subst accepts e tt
     accepts checked.Refused = ⊥
     accepts (checked.Accepted s) = Unit {0}
 
-after-sound : (s : Kinds) (v : Value) (ps : Gathered) (os : List Outcome) → T (has s (kindOf v)) → SoundParts ps os → SoundParts (after s ps) (Worked v ∷ os)
-after-sound s v (refusedAt p) os h hs = tt
-after-sound s v (sets ss) os h hs = (hs .0, (h, hs .1))
+after-sound : (s : Kinds) (v : Value) (ps : Judged (List Kinds)) (os : List Outcome) → T (has s (kindOf v)) → SoundParts ps os → SoundParts (after s ps) (Worked v ∷ os)
+after-sound s v (refused p) os h hs = tt
+after-sound s v (fine ss) os h hs = (hs .0, (h, hs .1))
 
 gathered-sound : (bs : List Verdict) (os : List Outcome) → Sounds bs os → SoundParts (gathered bs) os
 gathered-sound [] [] h = (refl, tt)
@@ -88,11 +90,11 @@ gathered-sound (Accepted s ∷ bs) (Fault ∷ os) h = absurd (h .0)
 gathered-sound (Accepted s ∷ bs) (Worked v ∷ os) h = after-sound s v (gathered bs) os (h .0) (gathered-sound bs os (h .1))
 
 -- the values' kinds are a choice: if it faulted the node would be refused, so it gives the value's kind, which the node's set has
-operated-sound : (text : Span → List ℕ) (p : ℕ) (found : Found) (ps : Gathered) (os : List Outcome) → SoundParts ps os →
+operated-sound : (text : Span → List ℕ) (p : ℕ) (found : Found) (ps : Judged (List Kinds)) (os : List Outcome) → SoundParts ps os →
     Sound (operated p found ps) (applied text found os)
-operated-sound text p found (refusedAt q) os h = tt
-operated-sound text p Unknown (sets ss) os h = tt
-operated-sound text p (Known o) (sets ss) os h = rw (h .0) (go (nodeKinds o ss) refl (meaning text o vs) (kinded text o vs))
+operated-sound text p found (refused q) os h = tt
+operated-sound text p Unknown (fine ss) os h = tt
+operated-sound text p (Known o) (fine ss) os h = rw (h .0) (go (nodeKinds o ss) refl (meaning text o vs) (kinded text o vs))
   where
     vs : List Value
     vs = map valueIn os
@@ -122,7 +124,7 @@ conditional-sound p (Accepted t) (Refused q) b o x y h hx hy = tt
 conditional-sound p (Accepted t) (Accepted a) (Refused q) o x y h hx hy = tt
 conditional-sound p (Accepted t) (Accepted a) (Accepted b) o x y h hx hy = go (withinOf t (singleOf Boolean)) refl
   where
-    go : (w : Bool) → withinOf t (singleOf Boolean) ≡ w → Sound (cond w (Accepted (unionOf a b)) (Refused p)) (branchOf o x y)
+    go : (w : Bool) → withinOf t (singleOf Boolean) ≡ w → Sound (cond w (Accepted (unionOf a b)) (wrongAt p)) (branchOf o x y)
     go false e = tt
     go true e =
         branch-sound (unionOf a b) o x y (widened t (singleOf Boolean) o (λ k. within t (singleOf Boolean) k (subst T (sym e) tt)) h)
@@ -221,7 +223,7 @@ result-sound : (want : Wanted) (end : ℕ) (a : Verdict) (o : Outcome) → Sound
 result-sound want end (Refused p) o h = tt
 result-sound want end (Accepted s) o h = go (withinOf s (takenBy want)) refl
   where
-    go : (w : Bool) → withinOf s (takenBy want) ≡ w → SoundResult want (cond w (Accepted s) (Refused end)) o
+    go : (w : Bool) → withinOf s (takenBy want) ≡ w → SoundResult want (cond w (Accepted s) (wrongAt end)) o
     go true e = (h, widened s (takenBy want) o (λ k. within s (takenBy want) k (subst T (sym e) tt)) h)
     go false e = tt
 
@@ -242,20 +244,28 @@ module _ (c : Context) (look : ℕ → ℕ → Kinds) (literals : (p k : ℕ) �
     result = result-sound want end (kindsOf look e) (evalOf c e) (sound c look literals e variables)
 
     -- and with what is wanted, to a value of a kind that is taken
-    pub accepted-result : (s : Kinds) → resultOf want end (kindsOf look e) ≡ Accepted s →
+    pub accepted-result : (s : Kinds) → answerOf (resultOf want end (kindsOf look e)) ≡ fine s →
         (v : Value) × (evalOf c e ≡ Worked v) × T (has s (kindOf v)) × T (has (takenBy want) (kindOf v))
-    accepted-result s a = go (evalOf c e) refl (subst (λ (d : Verdict). SoundResult want d (evalOf c e)) a result)
+    accepted-result s a = go (evalOf c e) refl (subst (λ (j : Judged Kinds). SoundAnswer j (evalOf c e)) a (answer (resultOf want end (kindsOf look e)) (evalOf c e) result))
       where
+        SoundAnswer : Judged Kinds → Outcome → Type 0
+        SoundAnswer (refused r) o = Unit {0}
+        SoundAnswer (fine s) o = Conforms s o × Conforms (takenBy want) o
+
+        answer : (a : Verdict) (o : Outcome) → SoundResult want a o → SoundAnswer (answerOf a) o
+        answer (Refused r) o h = tt
+        answer (Accepted s) o h = h
+
         go : (o : Outcome) → evalOf c e ≡ o → Conforms s o × Conforms (takenBy want) o →
             (v : Value) × (evalOf c e ≡ Worked v) × T (has s (kindOf v)) × T (has (takenBy want) (kindOf v))
         go Fault f h = absurd (h .0)
         go (Worked v) f h = (v, f, h .0, h .1)
 
     -- in short: what is not refused does not fail
-    pub never-fails : isRefused (resultOf want end (kindsOf look e)) ≡ false → fails want (evalOf c e) ≡ false
+    pub never-fails : isRefused (answerOf (resultOf want end (kindsOf look e))) ≡ false → fails want (evalOf c e) ≡ false
     never-fails n = go (resultOf want end (kindsOf look e)) (evalOf c e) result n
       where
-        go : (a : Verdict) (o : Outcome) → SoundResult want a o → isRefused a ≡ false → fails want o ≡ false
+        go : (a : Verdict) (o : Outcome) → SoundResult want a o → isRefused (answerOf a) ≡ false → fails want o ≡ false
         go (Refused p) o h n = absurd (true≢false n)
         go (Accepted s) Fault h n = absurd (h .0)
         go (Accepted s) (Worked v) h n = rw (is-true (has (takenBy want) (kindOf v)) (h .1))

@@ -2,7 +2,7 @@
 use mathlib.Core.Path.{_≡_, refl, sym, _∙_, ap}
 use mathlib.Core.Bool.{Bool, true, false, cond}
 use mathlib.Core.List.{List, [], _∷_}
-use Prim.Native.Nat.{ℕ, zero, suc, _+_, _*_, _≤_, _<_}
+use Prim.Native.Nat.{ℕ, zero, suc, _+_, _≤_, _<_}
 use native.Mathlib.Nat.{add-zero, zero-add}
 use native.Mathlib.Omega.{arith}
 use lib.Dec.{leb}
@@ -12,8 +12,8 @@ use lib.Seq.{getD-set-same, getD-set-other, sets, length-sets}
 use borrow.Author.Tests.{lt-leb}
 use Rattle.value.specs.declared.value.Value.{Value}
 use Rattle.value.specs.declared.value.Value.the-variants.{Undefined, Null, Boolean, Number, String, Vec2, Vec3, Vec4}
-use Rattle.checker.specs.Name.{noRow}
-use Rattle.evaluator.specs.Values.{valueAt, rowOf, floatsOf, storedRows, storedFloats}
+use Rattle.plan.specs.Layout.{undeclared, spanPlace, floatPlace, spansSize, floatsSize}
+use Rattle.evaluator.specs.Values.{valueAt, spanOf, floatsOf, storedSpans, storedFloats}
 
 -- ---- a run of stores
 
@@ -43,14 +43,14 @@ module _ {A : Type 0} where
   kept true l p vs = refl
   kept false l p vs = length-sets l p vs
 
--- ---- the row and the floats of a number
+-- ---- the span and the floats of a number
 
 -- they decide its value
-alike : (rows others : List ℕ) (floats more : List Float) (n m : ℕ) → leb noRow n ≡ leb noRow m →
-    ((i : ℕ) → i < 3 → getD rows (3 * n + i) 0 ≡ getD others (3 * m + i) 0) →
-    ((i : ℕ) → i < 4 → getD floats (4 * n + i) nan ≡ getD more (4 * m + i) nan) → valueAt rows floats n ≡ valueAt others more m
+alike : (spans others : List ℕ) (floats more : List Float) (n m : ℕ) → leb undeclared n ≡ leb undeclared m →
+    ((i : ℕ) → i < 3 → getD spans (spanPlace n + i) 0 ≡ getD others (spanPlace m + i) 0) →
+    ((i : ℕ) → i < 4 → getD floats (floatPlace n + i) nan ≡ getD more (floatPlace m + i) nan) → valueAt spans floats n ≡ valueAt others more m
 unfolding valueAt
-alike rows others floats more n m e r f =
+alike spans others floats more n m e r f =
     let kind = simp add-zero at (r 0 (omega arith)) in
     let x = simp add-zero at (f 0 (omega arith)) in
     rw (e, kind, r 1 (omega arith), r 2 (omega arith), x, f 1 (omega arith), f 2 (omega arith), f 3 (omega arith))
@@ -58,12 +58,12 @@ alike rows others floats more n m e r f =
 -- and a value's own decide it
 text : (b : Bool) (p q : ℕ) →
     let v = String (record { literal = b; start = p; end = q }) in
-    valueAt (rowOf v) (floatsOf v) 0 ≡ v
+    valueAt (spanOf v) (floatsOf v) 0 ≡ v
 unfolding valueAt
 text true p q = refl
 text false p q = refl
 
-own : (v : Value) → valueAt (rowOf v) (floatsOf v) 0 ≡ v
+own : (v : Value) → valueAt (spanOf v) (floatsOf v) 0 ≡ v
 unfolding valueAt
 own Undefined = refl
 own Null = refl
@@ -77,29 +77,29 @@ own (Vec4 x y z w) = refl
 
 -- ---- the theorems
 
-pub stored-back : (rows : List ℕ) (floats : List Float) (n : ℕ) (v : Value) → length rows ≡ 144 → length floats ≡ 192 → n < noRow →
-    valueAt (storedRows rows n v) (storedFloats floats n v) n ≡ v
-unfolding storedRows storedFloats
-stored-back rows floats n v r f h =
-    let e = lt-leb noRow n h in
+pub stored-back : (spans : List ℕ) (floats : List Float) (n : ℕ) (v : Value) → length spans ≡ spansSize → length floats ≡ floatsSize → n < undeclared →
+    valueAt (storedSpans spans n v) (storedFloats floats n v) n ≡ v
+unfolding storedSpans storedFloats
+stored-back spans floats n v r f h =
+    let e = lt-leb undeclared n h in
     rw e
-    (alike (sets rows (3 * n) (rowOf v)) (rowOf v) (sets floats (4 * n) (floatsOf v)) (floatsOf v) n 0 e
-    (λ i b. in-sets rows (3 * n) (rowOf v) i (3 * n + i) 0 refl (omega arith) b ∙ ap (λ (j : ℕ). getD (rowOf v) j 0) (sym (zero-add i)))
-    (λ i b. in-sets floats (4 * n) (floatsOf v) i (4 * n + i) nan refl (omega arith) b ∙ ap (λ (j : ℕ). getD (floatsOf v) j nan) (sym (zero-add i)))
+    (alike (sets spans (spanPlace n) (spanOf v)) (spanOf v) (sets floats (floatPlace n) (floatsOf v)) (floatsOf v) n 0 e
+    (λ i b. in-sets spans (spanPlace n) (spanOf v) i (spanPlace n + i) 0 refl (omega arith) b ∙ ap (λ (j : ℕ). getD (spanOf v) j 0) (sym (zero-add i)))
+    (λ i b. in-sets floats (floatPlace n) (floatsOf v) i (floatPlace n + i) nan refl (omega arith) b ∙ ap (λ (j : ℕ). getD (floatsOf v) j nan) (sym (zero-add i)))
     ∙ own v)
 
-pub stored-others : (rows : List ℕ) (floats : List Float) (n : ℕ) (v : Value) (m : ℕ) → (m ≡ n → ⊥) →
-    valueAt (storedRows rows n v) (storedFloats floats n v) m ≡ valueAt rows floats m
-unfolding storedRows storedFloats
-stored-others rows floats n v m differ =
-    alike (storedRows rows n v) rows (storedFloats floats n v) floats m m refl
-    (λ i b. outside (leb noRow n) rows (3 * n) (rowOf v) (3 * m + i) 0 (λ k c e. differ (omega arith)))
-    (λ i b. outside (leb noRow n) floats (4 * n) (floatsOf v) (4 * m + i) nan (λ k c e. differ (omega arith)))
+pub stored-others : (spans : List ℕ) (floats : List Float) (n : ℕ) (v : Value) (m : ℕ) → (m ≡ n → ⊥) →
+    valueAt (storedSpans spans n v) (storedFloats floats n v) m ≡ valueAt spans floats m
+unfolding storedSpans storedFloats
+stored-others spans floats n v m differ =
+    alike (storedSpans spans n v) spans (storedFloats floats n v) floats m m refl
+    (λ i b. outside (leb undeclared n) spans (spanPlace n) (spanOf v) (spanPlace m + i) 0 (λ k c e. differ (omega arith)))
+    (λ i b. outside (leb undeclared n) floats (floatPlace n) (floatsOf v) (floatPlace m + i) nan (λ k c e. differ (omega arith)))
 
-pub rows-length : (rows : List ℕ) (n : ℕ) (v : Value) → length (storedRows rows n v) ≡ length rows
-unfolding storedRows
-rows-length rows n v = kept (leb noRow n) rows (3 * n) (rowOf v)
+pub spans-length : (spans : List ℕ) (n : ℕ) (v : Value) → length (storedSpans spans n v) ≡ length spans
+unfolding storedSpans
+spans-length spans n v = kept (leb undeclared n) spans (spanPlace n) (spanOf v)
 
 pub floats-length : (floats : List Float) (n : ℕ) (v : Value) → length (storedFloats floats n v) ≡ length floats
 unfolding storedFloats
-floats-length floats n v = kept (leb noRow n) floats (4 * n) (floatsOf v)
+floats-length floats n v = kept (leb undeclared n) floats (floatPlace n) (floatsOf v)

@@ -3,6 +3,7 @@ use mathlib.Core.Path.{_≡_}
 use mathlib.Core.Bool.{Bool, true, false, not, _&&_, _||_}
 use Prim.Native.Nat.{ℕ}
 use lib.Dec.{T, eqb}
+use Rattle.lexer.specs.Refusal.{Judged, refused, fine}
 use Rattle.kind.specs.Set.{has}
 use Rattle.kind.specs.declared.set.Kinds.{Kinds}
 use Rattle.value.specs.Value.{kindOf}
@@ -14,8 +15,6 @@ use Rattle.tree.specs.Tree.{Tree, literal, variable, unary, binary, conditional
 use Rattle.checker.specs.Operator.{or, and}
 use Rattle.checker.specs.Property.{Property, undeclared, declared, propertyKinds}
 use Rattle.checker.specs.Kinds.{takenBy}
-use Rattle.checker.specs.declared.check.Verdict.{Verdict}
-use Rattle.checker.specs.declared.check.Verdict.the-variants.{Refused, Accepted}
 use Rattle.checker.specs.declared.check.Wanted.{Wanted}
 
 -- ---- values that conform
@@ -73,9 +72,9 @@ abbrev mutual
 
 -- ---- refused, and failing
 
-abbrev pub isRefused : Verdict → Bool
-isRefused (Refused p) = true
-isRefused (Accepted s) = false
+abbrev pub isRefused : Judged Kinds → Bool
+isRefused (refused r) = true
+isRefused (fine s) = false
 
 -- it faults ("to meet a kind or count not taken is what this page calls a fault"), or ends in a kind that is not wanted
 abbrev pub fails : Wanted → Outcome → Bool

@@ -1,4 +1,5 @@
--- What an expression means: page 01, "Kinds and meaning". A fault is where an operator, function or pick meets a kind or a count that it does not take.
+-- What an expression means: page 01, "Kinds and meaning". A fault is where an operator, function or pick meets a kind or a count that it
+-- does not take.
 use mathlib.Core.Bool.{Bool, true, false, cond, _||_}
 use mathlib.Core.List.{List, [], _∷_, map}
 use Prim.Native.Nat.{ℕ}
@@ -33,7 +34,8 @@ abbrev pub someFault : List Outcome → Bool
 someFault [] = false
 someFault (o ∷ os) = isFault o || someFault os
 
--- "Every node's answer is worked out from its parts' answers": a fault, if one of them is, and else what the operation means on their values
+-- "Every node's answer is worked out from its parts' answers": a fault, if one of them is, and else what the operation means on their
+-- values
 abbrev pub applied : (Span → List ℕ) → Found → List Outcome → Outcome
 applied text Unknown os = Fault
 applied text (Known o) os = cond (someFault os) Fault (meaning text o (map valueIn os))
@@ -59,7 +61,8 @@ binaryOf text o l r = cond (eqb o or) (orOf l r) (cond (eqb o and) (andOf l r) (
 
 -- ---- an expression
 
--- what an expression is worked out from: the bytes of a string, the value of a literal by its place and its form, and what a variable comes to by its place and its number
+-- what an expression is worked out from: the bytes of a string, the value of a literal by its place and its form, and what a variable comes
+-- to by its place and its number
 pub record Context : Type 0 where
   pub text : Span → List ℕ
   pub literals : ℕ → ℕ → Value

@@ -6,19 +6,25 @@ use lib.Dec.{eqb}
 use lib.Ieee.{Float}
 use Rattle.kind.specs.Kind.{eqKind}
 use Rattle.kind.specs.declared.kind.Kind.the-variants as kind
-use Rattle.value.specs.Value.{kindOf, truth}
+use Rattle.value.specs.Value.{kindOf, truth, textIn}
+use Rattle.value.specs.Name.{functionAt}
 use Rattle.value.specs.declared.apply.Outcome.{Outcome}
 use Rattle.value.specs.declared.apply.Outcome.the-variants.{Fault, Worked}
+use Rattle.tree.specs.Tree.{Tree}
 use Rattle.tree.specs.Node.{argumentAt, treeAt, argumentsAt, mostCommas}
 use Rattle.tree.specs.declared.node.Argument.{Argument}
 use Rattle.tree.specs.declared.node.Argument.the-variants.{Last, Next}
 use Rattle.checker.specs.Operator.{or, and}
-use Rattle.evaluator.specs.Eval.{evalOfAll}
+use Rattle.evaluator.specs.Eval.{applied, branchOf, binaryOf, Context, evalOf, evalOfAll}
 use Rattle.evaluator.specs.Arrays.{arrayContext}
 use Rattle.evaluator.specs.declared.truth.Truth.{Truth}
 use Rattle.evaluator.specs.declared.truth.Truth.the-variants as truth-of
 use Rattle.evaluator.specs.declared.arguments.Places.{Places}
 use Rattle.evaluator.specs.declared.arguments.Places.the-variants as places
+use Rattle.evaluator.specs.declared.evaluate.Frame.{Frame}
+use Rattle.evaluator.specs.declared.evaluate.Called.{Called}
+use Rattle.evaluator.specs.declared.evaluate.Operands.{Operands}
+use Rattle.evaluator.specs.declared.evaluate.Branches.{Branches}
 
 -- ---- tests
 
@@ -62,7 +68,26 @@ abbrev pub withPlaces : Places → List ℕ → Places
 withPlaces a [] = a
 withPlaces a (p ∷ ps) = withPlaces (withPlace a p) ps
 
--- what the arguments of a call come to, at a place of the slots
-abbrev pub evalAllAt : List ℕ → List ℕ → List ℕ → List ℕ → List Float → ℕ → ℕ → ℕ → List Outcome
-evalAllAt style feature slots rows floats base at allowance =
-    evalOfAll (arrayContext style feature rows floats base) (argumentsAt (treeAt allowance slots) mostCommas slots at)
+-- ---- a part of an expression
+
+module _ (style feature slots spans : List ℕ) (floats : List Float) (frame : Frame) where
+  abbrev context : Context
+  context = arrayContext style feature spans floats (frame .base)
+
+  abbrev tree : ℕ → Tree
+  tree = treeAt (frame .allowance) slots
+
+  -- what the tree at a place comes to, as deep as the allowance goes
+  abbrev pub workedAt : ℕ → Outcome
+  workedAt at = evalOf context (tree at)
+
+  -- what a node comes to that has its parts at some places
+  abbrev pub calledAt : Called → Outcome
+  calledAt x =
+      applied (textIn style feature) (functionAt (x .function)) (evalOfAll context (argumentsAt tree mostCommas slots (x .arguments)))
+
+  abbrev pub binaryAt : Operands → Outcome
+  binaryAt x = binaryOf (textIn style feature) (x .operator) (workedAt (x .left)) (workedAt (x .right))
+
+  abbrev pub branchAt : Branches → Outcome
+  branchAt x = branchOf (workedAt (x .test)) (workedAt (x .first)) (workedAt (x .second))

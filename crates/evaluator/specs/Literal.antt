@@ -1,4 +1,5 @@
--- Literals: page 01, "Tokens and grammar" ("A primary is a number, string, variable, `true`, `false`, `null`, `undefined`, `NaN`, `Infinity`, ..") and what they mean.
+-- Literals: page 01, "Tokens and grammar" ("A primary is a number, string, variable, `true`, `false`, `null`, `undefined`, `NaN`,
+-- `Infinity`, ..") and what they mean.
 use mathlib.Core.Bool.{true, false, cond}
 use mathlib.Core.List.{List, [], _∷_}
 use Prim.Native.Nat.{ℕ, _+_, _-_}

@@ -1,7 +1,8 @@
--- The values of names as they lie in arrays, by the names' numbers: page 01, "Kinds and meaning" ("A value is of one of eight kinds"). A number that has no row is an undeclared name's.
+-- The values of names as they lie in arrays, by the names' numbers: page 01, "Kinds and meaning" ("A value is of one of eight kinds"). An
+-- undeclared name has none.
 use mathlib.Core.Bool.{true, false, cond}
 use mathlib.Core.List.{List, [], _∷_}
-use Prim.Native.Nat.{ℕ, _+_, _*_}
+use Prim.Native.Nat.{ℕ, _+_}
 use lib.Dec.{eqb, leb}
 use lib.ListN.{getD}
 use lib.Ieee.{Float, nan}
@@ -9,21 +10,21 @@ use lib.Seq.{sets}
 use Rattle.kind.specs.Kind.{numberOf}
 use Rattle.value.specs.Value.{kindOf, at, truth, span}
 use Rattle.value.specs.declared.value.Value.{Value}
-use Rattle.checker.specs.Name.{noRow}
 use Rattle.value.specs.declared.value.Value.the-variants.{Undefined, Null, Boolean, Number, String, Vec2, Vec3, Vec4}
+use Rattle.plan.specs.Layout.{undeclared, spanPlace, floatPlace}
 
--- For each number there is a row of a kind and two places, and there are four floats. The kind is its number in page 01's list; 8 is a String too, one that lies in the style's text, while 4 lies in the
--- feature's. A Boolean has 1 for true in its first place.
+-- For each number there is a span, which is a kind and two places, and there are four floats. The kind is its number in page 01's list; 8
+-- is a String too, one that lies in the style's text, while 4 lies in the feature's. A Boolean has 1 for true in its first place.
 unfoldable pub valueAt : List ℕ → List Float → ℕ → Value
-valueAt rows floats n =
-    let kind = getD rows (3 * n) 0 in
-    let start = getD rows (3 * n + 1) 0 in
-    let end = getD rows (3 * n + 2) 0 in
-    let x = getD floats (4 * n) nan in
-    let y = getD floats (4 * n + 1) nan in
-    let z = getD floats (4 * n + 2) nan in
-    let w = getD floats (4 * n + 3) nan in
-    cond (leb noRow n) Undefined
+valueAt spans floats n =
+    let kind = getD spans (spanPlace n) 0 in
+    let start = getD spans (spanPlace n + 1) 0 in
+    let end = getD spans (spanPlace n + 2) 0 in
+    let x = getD floats (floatPlace n) nan in
+    let y = getD floats (floatPlace n + 1) nan in
+    let z = getD floats (floatPlace n + 2) nan in
+    let w = getD floats (floatPlace n + 3) nan in
+    cond (leb undeclared n) Undefined
     (cond (eqb kind 1) Null
     (cond (eqb kind 2) (Boolean (eqb start 1))
     (cond (eqb kind 3) (Number x)
@@ -35,25 +36,25 @@ valueAt rows floats n =
 
 -- ---- a value that is stored
 
--- its row, which is its kind and two places, and its floats
-abbrev pub rowKind : Value → ℕ
-rowKind v = cond (span v .literal) 8 (numberOf (kindOf v))
+-- its span and its floats
+abbrev pub spanKind : Value → ℕ
+spanKind v = cond (span v .literal) 8 (numberOf (kindOf v))
 
-abbrev pub rowStart : Value → ℕ
-rowStart v = cond (truth v) 1 (span v .start)
+abbrev pub spanStart : Value → ℕ
+spanStart v = cond (truth v) 1 (span v .start)
 
-abbrev pub rowEnd : Value → ℕ
-rowEnd v = span v .end
+abbrev pub spanEnd : Value → ℕ
+spanEnd v = span v .end
 
-abbrev pub rowOf : Value → List ℕ
-rowOf v = rowKind v ∷ rowStart v ∷ rowEnd v ∷ []
+abbrev pub spanOf : Value → List ℕ
+spanOf v = spanKind v ∷ spanStart v ∷ spanEnd v ∷ []
 
 abbrev pub floatsOf : Value → List Float
 floatsOf v = at 0 v ∷ at 1 v ∷ at 2 v ∷ at 3 v ∷ []
 
--- the rows and the floats with those of a number set; a number that has no row changes nothing
-unfoldable pub storedRows : List ℕ → ℕ → Value → List ℕ
-storedRows rows n v = cond (leb noRow n) rows (sets rows (3 * n) (rowOf v))
+-- the arrays with those of a number set; an undeclared name's changes nothing
+unfoldable pub storedSpans : List ℕ → ℕ → Value → List ℕ
+storedSpans spans n v = cond (leb undeclared n) spans (sets spans (spanPlace n) (spanOf v))
 
 unfoldable pub storedFloats : List Float → ℕ → Value → List Float
-storedFloats floats n v = cond (leb noRow n) floats (sets floats (4 * n) (floatsOf v))
+storedFloats floats n v = cond (leb undeclared n) floats (sets floats (floatPlace n) (floatsOf v))

@@ -2,11 +2,13 @@
 // features that the expression is worked out for.
 use crate::expression;
 use crate::names;
-use crate::read;
-use crate::report;
 use cases::line;
 use cases::tally;
 use cases::tally::Outcome;
+use plan::layout::NAMES;
+use plan::layout::PLAN;
+use reports::read;
+use reports::report;
 
 const LINE: usize = 32;
 
@@ -16,23 +18,20 @@ fn is_well_formed(head: &[u8]) -> bool {
 
 // Reads the names.
 fn named_agrees(fd: i32, name: &[u8], head: &[u8], style: &[u8]) -> bool {
-    let mut starts = [0usize; 48];
-    let mut ends = [0usize; 48];
-    let mut sets = [0u8; 48];
+    let mut names = [0usize; NAMES];
+    let mut plan = [0u16; PLAN];
     let count = line::number(head, 13, 15);
-    if names::read(fd, count, &mut starts, &mut ends, &mut sets) {
-        return expression::agrees(fd, name, head, style, &starts, &ends, &sets);
+    if names::read(fd, count, &mut names, &mut plan) {
+        return expression::agrees(fd, name, head, style, &names, &plan);
     }
-    report::malformed(name, head);
-    false
+    report::malformed(name, head)
 }
 
 fn style_agrees(fd: i32, name: &[u8], head: &[u8], style: &mut [u8]) -> bool {
     if read::text(fd, style) {
         return named_agrees(fd, name, head, style);
     }
-    report::malformed(name, head);
-    false
+    report::malformed(name, head)
 }
 
 // A line that is malformed does not agree.
@@ -44,8 +43,7 @@ fn agrees(fd: i32, name: &[u8], head: &[u8]) -> bool {
             return style_agrees(fd, name, head, &mut room[..length]);
         }
     }
-    report::malformed(name, head);
-    false
+    report::malformed(name, head)
 }
 
 // Nothing more to read is the end.

@@ -1,12 +1,14 @@
 // The expression of a case: what the checker says of it, and what it comes to for each feature.
 use crate::answer;
 use crate::feature;
-use crate::report;
 use cases::line;
 use checker::check::Wanted;
 use checker::check::check;
 use checker::name::Scope;
 use checker::name::resolve;
+use plan::layout::Names;
+use plan::layout::Plan;
+use reports::report;
 use syntax::judge::Judgement;
 use syntax::judge::judge;
 
@@ -47,68 +49,38 @@ fn features_agree(
     same
 }
 
-// What the checker says of the tree whose names are resolved, and then what it comes to.
-fn tree_agrees(
-    fd: i32,
-    name: &[u8],
-    head: &[u8],
-    style: &[u8],
-    slots: &[u16],
-    sets: &[u8; 48],
-    base: usize,
-    end: usize,
-    root: usize,
-) -> bool {
-    let verdict = check(slots, sets, root, wanted(head), end);
-    answer::agrees(name, head, style, verdict)
-        & features_agree(fd, name, head, style, slots, base, root)
-}
-
-// A text that is refused before its kinds are looked at is no case of this program.
+// What the checker says of the tree whose names are resolved, and then what it comes to. A text that is
+// refused before its kinds are looked at is no case of this program.
 fn text_agrees(
     fd: i32,
     name: &[u8],
     head: &[u8],
     style: &[u8],
     text: &[u8],
-    starts: &[usize; 48],
-    ends: &[usize; 48],
-    sets: &[u8; 48],
+    names: &Names,
+    plan: &Plan,
     base: usize,
 ) -> bool {
     let mut slots = [0u16; SLOTS];
     match judge(text, &mut slots) {
         Judgement::Fine { root } => {
-            resolve(scope(head), style, starts, ends, text, &mut slots);
-            tree_agrees(fd, name, head, style, &slots, sets, base, text.len(), root)
+            resolve(scope(head), style, names, text, &mut slots);
+            let verdict = check(&slots, plan, root, wanted(head), text.len());
+            answer::agrees(name, head, style, verdict)
+                & features_agree(fd, name, head, style, &slots, base, root)
         }
-        Judgement::Refused {
-            number: _,
-            place: _,
-        } => {
-            report::malformed(name, head);
-            false
-        }
+        Judgement::Refused(_) => report::malformed(name, head),
     }
 }
 
 // The expression lies at the end of the style's text.
-fn cut_agrees(
-    fd: i32,
-    name: &[u8],
-    head: &[u8],
-    style: &[u8],
-    starts: &[usize; 48],
-    ends: &[usize; 48],
-    sets: &[u8; 48],
-) -> bool {
+fn cut_agrees(fd: i32, name: &[u8], head: &[u8], style: &[u8], names: &Names, plan: &Plan) -> bool {
     let base = line::number(head, 5, 8) as usize;
     if base <= style.len() {
         let text = &style[base..];
-        return text_agrees(fd, name, head, style, text, starts, ends, sets, base);
+        return text_agrees(fd, name, head, style, text, names, plan, base);
     }
-    report::malformed(name, head);
-    false
+    report::malformed(name, head)
 }
 
 pub(crate) fn agrees(
@@ -116,14 +88,12 @@ pub(crate) fn agrees(
     name: &[u8],
     head: &[u8],
     style: &[u8],
-    starts: &[usize; 48],
-    ends: &[usize; 48],
-    sets: &[u8; 48],
+    names: &Names,
+    plan: &Plan,
 ) -> bool {
     let end = line::number(head, 9, 12) as usize;
     if end <= style.len() {
-        return cut_agrees(fd, name, head, &style[0..end], starts, ends, sets);
+        return cut_agrees(fd, name, head, &style[0..end], names, plan);
     }
-    report::malformed(name, head);
-    false
+    report::malformed(name, head)
 }

@@ -1,53 +1,56 @@
 // A feature of a case: a line, the text that its strings lie in, the parts of its values, each on a
 // line, and what the expression comes to.
-use crate::read;
-use crate::report;
 use crate::values;
 use cases::line;
 use evaluator::evaluate::evaluate;
 use number::bits::from_bits;
+use plan::layout::COMPONENTS;
+use plan::layout::FLOATS;
+use plan::layout::Floats;
+use plan::layout::SPAN;
+use plan::layout::SPANS;
+use plan::layout::Spans;
+use plan::layout::UNDECLARED;
+use reports::read;
+use reports::report;
 use value::apply::Outcome;
 
 const LINE: usize = 11;
 
 const PART: usize = 24;
 
-const ROWS: usize = 48;
-
-const MOST_HEIGHT: usize = 64;
-
 // ---- the values
 
-// A part is a row's kind and one of its four floats, or its two places. A value has what is no part
-// of its kind too, which the evaluator has to leave alone.
-fn put(line: &[u8], rows: &mut [usize; 144], floats: &mut [f64; 192]) -> bool {
-    let row = line::number(line, 0, 2) as usize;
+// A part is the kind of a name's value and one of its four floats, or its two places. A value has what
+// is no part of its kind too, which the evaluator has to leave alone.
+fn put(line: &[u8], spans: &mut Spans, floats: &mut Floats) -> bool {
+    let number = line::number(line, 0, 2) as usize;
     let i = line::number(line, 5, 6) as usize;
     if !line::fits(line, b"hh h h hhhhhhhhhhhhhhhh\n") {
         return false;
     }
-    if row < ROWS {
-        if i < 4 {
-            rows[3 * row] = line::number(line, 3, 4) as usize;
-            rows[3 * row + 1] = line::number(line, 7, 15) as usize;
-            rows[3 * row + 2] = line::number(line, 15, 23) as usize;
-            floats[4 * row + i] = from_bits(line::number(line, 7, 23));
+    if number < UNDECLARED {
+        if i < COMPONENTS {
+            spans[SPAN * number] = line::number(line, 3, 4) as usize;
+            spans[SPAN * number + 1] = line::number(line, 7, 15) as usize;
+            spans[SPAN * number + 2] = line::number(line, 15, 23) as usize;
+            floats[COMPONENTS * number + i] = from_bits(line::number(line, 7, 23));
             return true;
         }
     }
     false
 }
 
-fn read_part(fd: i32, rows: &mut [usize; 144], floats: &mut [f64; 192]) -> bool {
+fn read_part(fd: i32, spans: &mut Spans, floats: &mut Floats) -> bool {
     let mut line = [0u8; PART];
     let n = io::read_full(fd, &mut line);
-    put(&line[..n], rows, floats)
+    put(&line[..n], spans, floats)
 }
 
-// Reads so many parts. A row that none is for stays Undefined.
-fn read_parts(fd: i32, count: u64, rows: &mut [usize; 144], floats: &mut [f64; 192]) -> bool {
+// Reads so many parts. A number that none is for stays Undefined.
+fn read_parts(fd: i32, count: u64, spans: &mut Spans, floats: &mut Floats) -> bool {
     for _ in 0..count {
-        if !read_part(fd, rows, floats) {
+        if !read_part(fd, spans, floats) {
             return false;
         }
     }
@@ -87,8 +90,7 @@ fn read_outcome(
     if read::text(fd, wanted) {
         return outcome_agrees(name, head, style, feature, wanted, outcome);
     }
-    report::malformed(name, head);
-    false
+    report::malformed(name, head)
 }
 
 // Lends the room for what is wanted.
@@ -105,8 +107,7 @@ fn with_outcome(
         let mut room = io::buffer();
         return read_outcome(fd, name, head, style, feature, &mut room[..length], outcome);
     }
-    report::malformed(name, head);
-    false
+    report::malformed(name, head)
 }
 
 // ---- the feature
@@ -122,25 +123,15 @@ fn values_agree(
     base: usize,
     root: usize,
 ) -> bool {
-    let mut rows = [0usize; 144];
-    let mut floats = [0.0f64; 192];
+    let mut spans = [0usize; SPANS];
+    let mut floats = [0.0f64; FLOATS];
     let count = line::number(line, 4, 6);
-    if read_parts(fd, count, &mut rows, &mut floats) {
-        let outcome = evaluate(
-            style,
-            feature,
-            slots,
-            &rows,
-            &floats,
-            base,
-            root,
-            MOST_HEIGHT,
-        );
+    if read_parts(fd, count, &mut spans, &mut floats) {
+        let outcome = evaluate(style, feature, slots, &spans, &floats, base, root);
         let length = line::number(line, 7, 10) as usize;
         return with_outcome(fd, name, head, style, feature, length, outcome);
     }
-    report::malformed(name, line);
-    false
+    report::malformed(name, line)
 }
 
 fn text_agrees(
@@ -157,8 +148,7 @@ fn text_agrees(
     if read::text(fd, feature) {
         return values_agree(fd, name, head, line, style, feature, slots, base, root);
     }
-    report::malformed(name, line);
-    false
+    report::malformed(name, line)
 }
 
 // Lends the room for the feature's text.
@@ -180,8 +170,7 @@ fn line_agrees(
             return text_agrees(fd, name, head, line, style, text, slots, base, root);
         }
     }
-    report::malformed(name, line);
-    false
+    report::malformed(name, line)
 }
 
 pub(crate) fn agrees(

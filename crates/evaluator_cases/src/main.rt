@@ -7,14 +7,13 @@ mod expression;
 mod feature;
 mod kinds;
 mod names;
-mod read;
-mod report;
 mod values;
 
 use cases::tally;
 use cases::tally::Outcome;
 use cases::tally::Tally;
 use cases::tally::sum;
+use reports::report;
 
 fn count_cases(fd: i32, name: &[u8]) -> Tally {
     let mut t = tally::NONE;
@@ -31,13 +30,11 @@ fn count_cases(fd: i32, name: &[u8]) -> Tally {
 fn run(name: &[u8]) -> Tally {
     let fd = os::open_read(name);
     if fd < 0 {
-        report::missing(name);
-        return tally::MISSING;
+        return report::missing(name);
     }
     let t = count_cases(fd, name);
     libc::close(fd);
-    report::counts(name, t);
-    t
+    report::counts(name, t)
 }
 
 // What single nodes are, and their places.

@@ -1,12 +1,12 @@
 // What an expression comes to, as the files have it: a fault is a -, a value its kind's digit and
 // then the patterns of its numbers, a Boolean's being 0 or 1, or the bytes of its string.
 use crate::kinds;
-use crate::report;
 use cases::line;
 use kind::kind::dimension;
+use lexer::bytes::same_part;
 use number::bits::to_bits;
+use reports::report;
 use value::apply::Outcome;
-use value::equality::same_part;
 use value::value::Span;
 use value::value::Value;
 use value::value::component;
@@ -83,10 +83,10 @@ fn print_string(style: &[u8], feature: &[u8], s: Span) {
 }
 
 fn print_patterns(v: Value) {
-    report::digits(pattern(v, 0), 16);
-    report::digits(pattern(v, 1), 16);
-    report::digits(pattern(v, 2), 16);
-    report::digits(pattern(v, 3), 16);
+    report::hex(b" ", pattern(v, 0), 16);
+    report::hex(b" ", pattern(v, 1), 16);
+    report::hex(b" ", pattern(v, 2), 16);
+    report::hex(b" ", pattern(v, 3), 16);
 }
 
 fn print_value(style: &[u8], feature: &[u8], v: Value) {

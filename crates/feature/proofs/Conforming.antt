@@ -7,18 +7,17 @@ use native.Mathlib.Omega.{arith}
 use borrow.Author.Tests.{ltb-false, eqb-true}
 use lib.Dec.{T, eqb, ltb}
 use lib.ListN.{length, drop, length-drop}
-use Rattle.lexer.specs.Bytes.{same, ascii}
+use Rattle.lexer.specs.Refusal.{refusalAt, Judged, refused, fine, onFine}
 use Rattle.kind.specs.Set.{has}
 use Rattle.kind.specs.declared.set.Kinds.{Kinds}
 use Rattle.value.specs.Value.{kindOf}
 use Rattle.value.specs.declared.value.Value.{Value}
 use Rattle.text.specs.Parts.{fields, field}
+use Rattle.text.specs.Head.{isFeature}
 use Rattle.feature.specs.Field.{fieldOf, conformed}
-use Rattle.feature.specs.Feature.{Values, complete, broken, with, onward, valuesFrom, Entered, refused, entered, fieldsEntered, enteredOf, answered, valuesOf, featureOf, AllOf}
+use Rattle.feature.specs.Feature.{Values, complete, broken, with, onward, valuesFrom, featureSize, mostFeatures, fieldsEntered, enteredOf, allConform, valuesOf, featureOf, AllOf}
 use Rattle.feature.specs.declared.field.Field.{Field}
 use Rattle.feature.specs.declared.field.Field.the-variants as read
-use Rattle.feature.specs.declared.feature.Feature.{Feature}
-use Rattle.feature.specs.declared.feature.Feature.the-variants.{Refused, Read}
 
 -- ---- the fields
 
@@ -46,25 +45,25 @@ values-conform at (s ∷ ss) (f ∷ fs) h = field-first at s ss (fieldOf at f) _
 
 -- ---- the line
 
-abbrev IsRead : Feature → Type 0
-IsRead (Refused n p) = ⊥
-IsRead Read = Unit {0}
+abbrev IsRead : Judged (Unit {0}) → Type 0
+IsRead (refused r) = ⊥
+IsRead (fine u) = Unit {0}
 
 module _ (sets : List Kinds) (number : ℕ) (text : List ℕ) where
   -- what holds of each way that a line can go holds of what it comes to
-  pub by-line : (P : Entered → Type 0) → P (refused 1 4096) → P (refused 1 999999) → P (refused 9 0) → P (refused 9 (length text)) →
-      (length text ≤ 4096 → number ≤ 999999 → length (fields text) ≡ length sets + 1 → P (entered (valuesFrom (length (field text 0) + 1) sets (drop 1 (fields text))))) →
+  pub by-line : (P : Judged Values → Type 0) → P (refused (refusalAt 1 featureSize)) → P (refused (refusalAt 1 mostFeatures)) → P (refused (refusalAt 9 0)) → P (refused (refusalAt 9 (length text))) →
+      (length text ≤ featureSize → number ≤ mostFeatures → length (fields text) ≡ length sets + 1 → P (fine (valuesFrom (length (field text 0) + 1) sets (drop 1 (fields text))))) →
       P (enteredOf sets number text)
   unfolding enteredOf fieldsEntered
   by-line P size many word count read =
-      go (ltb 4096 (length text)) refl (ltb 999999 number) refl (same (field text 0) (ascii "feat")) (eqb (length (fields text)) (length sets + 1)) refl
+      go (ltb featureSize (length text)) refl (ltb mostFeatures number) refl (isFeature text) (eqb (length (fields text)) (length sets + 1)) refl
     where
-      go : (b : Bool) → ltb 4096 (length text) ≡ b → (c : Bool) → ltb 999999 number ≡ c → (d e : Bool) → eqb (length (fields text)) (length sets + 1) ≡ e →
-          P (cond b (refused 1 4096)
-          (cond c (refused 1 999999)
+      go : (b : Bool) → ltb featureSize (length text) ≡ b → (c : Bool) → ltb mostFeatures number ≡ c → (d e : Bool) → eqb (length (fields text)) (length sets + 1) ≡ e →
+          P (cond b (refused (refusalAt 1 featureSize))
+          (cond c (refused (refusalAt 1 mostFeatures))
           (elim d [
-            | false ↦ refused 9 0
-            | true ↦ elim e [ false ↦ refused 9 (length text) | true ↦ entered (valuesFrom (length (field text 0) + 1) sets (drop 1 (fields text))) ]
+            | false ↦ refused (refusalAt 9 0)
+            | true ↦ elim e [ false ↦ refused (refusalAt 9 (length text)) | true ↦ fine (valuesFrom (length (field text 0) + 1) sets (drop 1 (fields text))) ]
           ])))
       go true p c q d e r = size
       go false p true q d e r = many
@@ -73,9 +72,9 @@ module _ (sets : List Kinds) (number : ℕ) (text : List ℕ) where
       go false p false q true true r = read (ltb-false _ _ p) (ltb-false _ _ q) (eqb-true _ _ r)
 
   -- what is known of the line by what it comes to
-  abbrev Known : Entered → Type 0
-  Known (refused n p) = Unit {0}
-  Known (entered vs) = (length text ≤ 4096) × (number ≤ 999999) × Conform sets vs
+  abbrev Known : Judged Values → Type 0
+  Known (refused e) = Unit {0}
+  Known (fine vs) = (length text ≤ featureSize) × (number ≤ mostFeatures) × Conform sets vs
 
   line-known : Known (enteredOf sets number text)
   line-known =
@@ -84,24 +83,24 @@ module _ (sets : List Kinds) (number : ℕ) (text : List ℕ) where
 
   -- ---- the theorems
 
-  module _ (e : featureOf sets number text ≡ Read) where
-    pub read-within : (length text ≤ 4096) × (number ≤ 999999)
+  module _ (e : featureOf sets number text ≡ fine tt) where
+    pub read-within : (length text ≤ featureSize) × (number ≤ mostFeatures)
     read-within = go (enteredOf sets number text) (subst IsRead (sym e) tt) line-known
       where
-        go : (x : Entered) → IsRead (answered x) → Known x → (length text ≤ 4096) × (number ≤ 999999)
-        go (refused n p) r k = absurd r
-        go (entered vs) r k = (k .0, k .1)
+        go : (x : Judged Values) → IsRead (onFine x allConform) → Known x → (length text ≤ featureSize) × (number ≤ mostFeatures)
+        go (refused e) r k = absurd r
+        go (fine vs) r k = (k .0, k .1)
 
-    pub read-gives : (vs : List Value) × (enteredOf sets number text ≡ entered (complete vs)) × AllOf sets vs
+    pub read-gives : (vs : List Value) × (enteredOf sets number text ≡ fine (complete vs)) × AllOf sets vs
     read-gives = go (enteredOf sets number text) (subst IsRead (sym e) tt) line-known
       where
-        go : (x : Entered) → IsRead (answered x) → Known x → (vs : List Value) × (x ≡ entered (complete vs)) × AllOf sets vs
-        go (refused n p) r k = absurd r
-        go (entered (broken vs p)) r k = absurd r
-        go (entered (complete vs)) r k = (vs, refl, k .2)
+        go : (x : Judged Values) → IsRead (onFine x allConform) → Known x → (vs : List Value) × (x ≡ fine (complete vs)) × AllOf sets vs
+        go (refused e) r k = absurd r
+        go (fine (broken vs p)) r k = absurd r
+        go (fine (complete vs)) r k = (vs, refl, k .2)
 
 -- so the values of a line that is read conform
-pub entered-conform : (sets : List Kinds) (number : ℕ) (text : List ℕ) (vs : List Value) → enteredOf sets number text ≡ entered (complete vs) → AllOf sets vs
+pub entered-conform : (sets : List Kinds) (number : ℕ) (text : List ℕ) (vs : List Value) → enteredOf sets number text ≡ fine (complete vs) → AllOf sets vs
 entered-conform sets number text vs e =
-    let r = read-gives sets number text (ap answered e) in
+    let r = read-gives sets number text (ap (λ (x : Judged Values). onFine x allConform) e) in
     subst (AllOf sets) (ap valuesOf (sym (r .1) ∙ e)) (r .2)

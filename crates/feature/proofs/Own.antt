@@ -6,14 +6,15 @@ use Prim.Native.Nat.{ℕ, _+_, _-_}
 use lib.Dec.{leb}
 use lib.ListN.{length, drop}
 use Rattle.lexer.specs.Bytes.{same, ascii, begins}
+use Rattle.lexer.specs.Refusal.{Judged, refused, fine}
 use Rattle.lexer.proofs.Law.Runs.{by-test}
 use Rattle.kind.specs.Set.{has}
 use Rattle.kind.specs.declared.set.Kinds.{Kinds}
 use Rattle.value.specs.Value.{kindOf, span}
 use Rattle.value.specs.declared.value.Value.{Value}
 use Rattle.text.specs.Parts.{fields, field, parted}
-use Rattle.feature.specs.Field.{Numbers, wrong, all, made, numbersIn, numbersOf, stringOf, filledOf, fieldOf, conformed}
-use Rattle.feature.specs.Feature.{Values, complete, broken, with, onward, valuesFrom, Entered, refused, entered, enteredOf}
+use Rattle.feature.specs.Field.{Numbers, wrong, all, made, numbersIn, numbersOf, longestString, stringOf, filledOf, fieldOf, conformed}
+use Rattle.feature.specs.Feature.{Values, complete, broken, with, onward, valuesFrom, enteredOf}
 use Rattle.feature.specs.declared.field.Field.{Field}
 use Rattle.feature.specs.declared.field.Field.the-variants as read
 use Rattle.feature.proofs.Conforming.{by-line}
@@ -48,7 +49,7 @@ filled-own at text =
     (λ _. by-test OwnField (same text (ascii "false")) (λ _. refl) (λ _. go (begins (61 ∷ []) text))))
   where
     go : (b : Bool) → OwnField (elim b [ true ↦ stringOf at (at + length text) | false ↦ made (numbersIn (parted 32 text)) ])
-    go true = by-test OwnField (leb (at + length text - (at + 1)) 255) (λ _. refl) (λ _. tt)
+    go true = by-test OwnField (leb (at + length text - (at + 1)) longestString) (λ _. refl) (λ _. tt)
     go false = made-own (numbersIn (parted 32 text))
 
 field-own : (at : ℕ) (text : List ℕ) → OwnField (fieldOf at text)
@@ -78,12 +79,12 @@ values-own at [] fs = tt
 values-own at (s ∷ ss) [] = tt
 values-own at (s ∷ ss) (f ∷ fs) = onward-own at s (fieldOf at f) _ (field-own at f) (values-own (at + length f + 1) ss fs)
 
-abbrev OwnEntered : Entered → Type 0
-OwnEntered (refused n p) = Unit {0}
-OwnEntered (entered vs) = OwnValues vs
+abbrev OwnEntered : Judged Values → Type 0
+OwnEntered (refused r) = Unit {0}
+OwnEntered (fine vs) = OwnValues vs
 
 line-own : (sets : List Kinds) (number : ℕ) (text : List ℕ) → OwnEntered (enteredOf sets number text)
 line-own sets number text = by-line sets number text OwnEntered tt tt tt tt (λ h k n. values-own (length (field text 0) + 1) sets (drop 1 (fields text)))
 
-pub read-own : (sets : List Kinds) (number : ℕ) (text : List ℕ) (vs : List Value) → enteredOf sets number text ≡ entered (complete vs) → AllOwn vs
+pub read-own : (sets : List Kinds) (number : ℕ) (text : List ℕ) (vs : List Value) → enteredOf sets number text ≡ fine (complete vs) → AllOwn vs
 read-own sets number text vs e = subst OwnEntered e (line-own sets number text)

@@ -10,7 +10,7 @@ use lib.Ieee.{ofInt, div, round}
 use lib.Ieee.Bits.{is-true}
 use lib.ListN.{length, getD, length-append, length-map}
 use Rattle.number.specs.Decimal.{digits, wholePart, fraction, joined, readAt, tenTo, valueOf}
-use Rattle.lexer.specs.Bytes.{ascii}
+use Rattle.lexer.specs.Refusal.{fine}
 use Rattle.lexer.specs.Spelling.{All}
 use Rattle.kind.specs.Set.{has, singleOf}
 use Rattle.kind.specs.declared.kind.Kind.{Kind}
@@ -18,14 +18,15 @@ use Rattle.kind.specs.declared.kind.Kind.the-variants as kind
 use Rattle.kind.proofs.Law.Sets.{in-single, in-left, in-right}
 use Rattle.value.specs.Value.{kindOf}
 use Rattle.value.specs.declared.value.Value.the-variants.{Undefined}
+use Rattle.plan.specs.Layout.{mostProperties}
 use Rattle.checker.specs.Property.{undeclared, declared, onlyIf}
 use Rattle.text.specs.Parts.{fields}
+use Rattle.text.specs.Word.{featureWord}
 use Rattle.text.proofs.Law.Parts.{parted-joined, parted-alone}
-use Rattle.feature.specs.Field.{numeralOf, numbersOf, filledOf, fieldOf, conformed}
-use Rattle.feature.specs.Feature.{entered, complete, with, valuesFrom, fieldsEntered, enteredOf, valuesOf, featureOf}
+use Rattle.feature.specs.Field.{numeralOf, numbersOf, longestString, filledOf, fieldOf, conformed}
+use Rattle.feature.specs.Feature.{complete, with, valuesFrom, featureSize, mostFeatures, fieldsEntered, enteredOf, valuesOf, featureOf}
 use Rattle.feature.specs.Sample.{absent, null, sample, Given, given, sampleText, sampleAt, textOf, chosenAt, kindsOf, written, lineFor, chosenFrom, isLineByte}
 use Rattle.feature.specs.declared.field.Field.the-variants as read
-use Rattle.feature.specs.declared.feature.Feature.the-variants.{Read}
 
 -- ---- a sample
 
@@ -45,7 +46,7 @@ sample-says at kind.Undefined = refl
 sample-says at kind.Null = refl
 sample-says at kind.Boolean = refl
 sample-says at kind.Number = refl
-sample-says at kind.String = rw (le-leb (at + 1 - (at + 1)) 255 (omega arith))
+sample-says at kind.String = rw (le-leb (at + 1 - (at + 1)) longestString (omega arith))
 sample-says at kind.Vec2 = refl
 sample-says at kind.Vec3 = refl
 sample-says at kind.Vec4 = refl
@@ -106,18 +107,18 @@ written-size (g ∷ gs) = omega (arith, length-append (textOf g) (written gs), g
 
 -- ---- the theorems
 
-pub sample-size : (gs : List Given) → length gs ≤ 32 → length (lineFor gs) ≤ 4096
+pub sample-size : (gs : List Given) → length gs ≤ mostProperties → length (lineFor gs) ≤ featureSize
 sample-size gs h = omega (arith, written-size gs)
 
-module _ (gs : List Given) (few : length gs ≤ 32) (number : ℕ) (small : number ≤ 999999) where
-  pub sample-read : enteredOf (map kindsOf gs) number (lineFor gs) ≡ entered (complete (chosenFrom 5 gs))
+module _ (gs : List Given) (few : length gs ≤ mostProperties) (number : ℕ) (small : number ≤ mostFeatures) where
+  pub sample-read : enteredOf (map kindsOf gs) number (lineFor gs) ≡ fine (complete (chosenFrom 5 gs))
   unfolding enteredOf fieldsEntered
   sample-read =
-      let f = fields-written (ascii "feat") gs (tt, (tt, (tt, (tt, tt)))) in
+      let f = fields-written featureWord gs (tt, (tt, (tt, (tt, tt)))) in
       let n : suc (length (map textOf gs)) ≡ length (map kindsOf gs) + 1 = omega (arith, length-map gs textOf, length-map gs kindsOf) in
-      rw (le-ltb 4096 (length (lineFor gs)) (sample-size gs few), le-ltb 999999 number small, f, fieldsEntered, f, eq-eqb _ _ n, f) (ap entered (values-read 5 gs))
+      rw (le-ltb featureSize (length (lineFor gs)) (sample-size gs few), le-ltb mostFeatures number small, f, fieldsEntered, f, eq-eqb _ _ n, f) (ap fine (values-read 5 gs))
 
-  pub sample-answer : featureOf (map kindsOf gs) number (lineFor gs) ≡ Read
+  pub sample-answer : featureOf (map kindsOf gs) number (lineFor gs) ≡ fine tt
   sample-answer = rw sample-read
 
   pub sample-values : valuesOf (enteredOf (map kindsOf gs) number (lineFor gs)) ≡ chosenFrom 5 gs
@@ -160,4 +161,4 @@ written-bytes [] = tt
 written-bytes (g ∷ gs) = (tt, all-joined isLineByte (textOf g) (written gs) (given-bytes g) (written-bytes gs))
 
 pub sample-line : (gs : List Given) → All isLineByte (lineFor gs)
-sample-line gs = all-joined isLineByte (ascii "feat") (written gs) (tt, (tt, (tt, (tt, tt)))) (written-bytes gs)
+sample-line gs = all-joined isLineByte featureWord (written gs) (tt, (tt, (tt, (tt, tt)))) (written-bytes gs)

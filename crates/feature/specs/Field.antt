@@ -1,5 +1,5 @@
--- What a field says: page 01, "What the painter reads" ("A field: empty is absent, `null` is null, `true`/`false`, a number with an optional `-`, a string as `=` and then 0 to 255 bytes, a vector as such numbers
--- parted by single spaces. `-0` is negative zero.").
+-- What a field says: page 01, "What the painter reads" ("A field: empty is absent, `null` is null, `true`/`false`, a number with an
+-- optional `-`, a string as `=` and then 0 to 255 bytes, a vector as such numbers parted by single spaces. `-0` is negative zero.").
 use mathlib.Core.Bool.{Bool, true, false, cond}
 use mathlib.Core.List.{List, [], _∷_}
 use Prim.Native.Nat.{ℕ, _+_, _-_}
@@ -31,7 +31,11 @@ wholeNumber negative end (decimal.TooLong stop) = numeral.Unread
 -- "a number with an optional `-`", which is 45
 unfoldable pub numeralOf : List ℕ → Numeral
 unfolding readAt valueOf
-numeralOf text = elim (begins (45 ∷ []) text) [ true ↦ wholeNumber true (length text) (readAt text 1) | false ↦ wholeNumber false (length text) (readAt text 0) ]
+numeralOf text =
+    elim (begins (45 ∷ []) text) [
+      | true ↦ wholeNumber true (length text) (readAt text 1)
+      | false ↦ wholeNumber false (length text) (readAt text 0)
+    ]
 
 -- some numbers, if all are
 pub data Numbers : Type 0 where
@@ -64,9 +68,14 @@ numbersOf text = made (numbersIn (parted 32 text))
 
 -- ---- strings
 
+-- "0 to 255 bytes"
+abbrev pub longestString : ℕ
+longestString = 255
+
 -- "`=` and then 0 to 255 bytes": the string from its `=` up to its end
 abbrev pub stringOf : ℕ → ℕ → Field
-stringOf start end = cond (leb (end - (start + 1)) 255) (Read (String (record { literal = false; start = start + 1; end = end }))) Unread
+stringOf start end =
+    cond (leb (end - (start + 1)) longestString) (Read (String (record { literal = false; start = start + 1; end = end }))) Unread
 
 -- ---- a field
 

@@ -3,9 +3,10 @@ use mathlib.Core.Path.{_≡_}
 use mathlib.Core.List.{List}
 use Prim.Native.Nat.{ℕ}
 use lib.Ieee.{Float}
+use Rattle.lexer.specs.Refusal.{onFine}
 use Rattle.value.specs.declared.value.Value.{Value}
 use Rattle.value.specs.declared.value.Value.the-variants.{Undefined, Null, Boolean, Number, String, Vec2, Vec3, Vec4}
-use Rattle.feature.specs.Feature.{fieldsEntered, answered, valuesOf, setsOf, rowsWith, floatsWith}
+use Rattle.feature.specs.Feature.{fieldsEntered, allConform, valuesOf, answerOf, setsFrom, spansWith, floatsWith}
 use Rattle.feature.specs.declared.numeral.Numeral.{Numeral}
 use Rattle.feature.specs.declared.numeral.Numeral.the-variants as numeral
 use Rattle.feature.specs.declared.field.Field.{Field}
@@ -28,8 +29,9 @@ extended Unread n = Unread
 extended (Read v) numeral.Unread = Unread
 extended (Read v) (numeral.Is x) = longer v x
 
--- the fields of a line, for the properties whose sets lie in bytes, and the arrays before and after
-pub record FieldsBy (sets : List ℕ) (properties : ℕ) (text rows : List ℕ) (floats : List Float) (rows′ : List ℕ) (floats′ : List Float) (r : Feature) : Type 0 where
-  pub answer : r ≡ answered (fieldsEntered (setsOf sets properties) text)
-  pub stored-rows : rows′ ≡ rowsWith 0 (valuesOf (fieldsEntered (setsOf sets properties) text)) rows
-  pub stored-floats : floats′ ≡ floatsWith 0 (valuesOf (fieldsEntered (setsOf sets properties) text)) floats
+-- the fields of a line, for so many properties of a plan, and the arrays before and after
+pub record FieldsBy (plan : List ℕ) (properties : ℕ) (text spans : List ℕ) (floats : List Float) (spans′ : List ℕ) (floats′ : List Float)
+    (r : Feature) : Type 0 where
+  pub answer : answerOf r ≡ onFine (fieldsEntered (setsFrom plan 0 properties) text) allConform
+  pub stored-spans : spans′ ≡ spansWith 0 (valuesOf (fieldsEntered (setsFrom plan 0 properties) text)) spans
+  pub stored-floats : floats′ ≡ floatsWith 0 (valuesOf (fieldsEntered (setsFrom plan 0 properties) text)) floats

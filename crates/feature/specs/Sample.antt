@@ -1,4 +1,5 @@
--- Lines that conform, one for every choice that the types and flags of a schema allow: page 01, "Refusal numbers" ("A strip conforms to a schema (`prop` lines, or none) if by this table neither 1 nor 9 refuses it").
+-- Lines that conform, one for every choice that the types and flags of a schema allow: page 01, "Refusal numbers" ("A strip conforms to a
+-- schema (`prop` lines, or none) if by this table neither 1 nor 9 refuses it").
 use mathlib.Core.Bool.{Bool, true, false, not, _&&_}
 use mathlib.Core.List.{List, [], _∷_, _++_}
 use Prim.Native.Nat.{ℕ, _+_}
@@ -12,6 +13,7 @@ use Rattle.value.specs.declared.value.Value.{Value}
 use Rattle.value.specs.declared.value.Value.the-variants.{Undefined, Null, Boolean, Number, String, Vec2, Vec3, Vec4}
 use Rattle.kind.specs.declared.set.Kinds.{Kinds}
 use Rattle.checker.specs.Property.{Property, undeclared, declared, propertyKinds}
+use Rattle.text.specs.Word.{featureWord}
 
 -- what a property may be given: nothing, null, or a sample of its type
 pub data Choice : Type 0 where
@@ -75,7 +77,7 @@ written [] = []
 written (g ∷ gs) = 9 ∷ textOf g ++ written gs
 
 abbrev pub lineFor : List Given → List ℕ
-lineFor gs = ascii "feat" ++ written gs
+lineFor gs = featureWord ++ written gs
 
 -- the values of the fields, the first of which begins at a place
 abbrev pub chosenFrom : ℕ → List Given → List Value

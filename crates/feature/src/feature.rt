@@ -2,20 +2,27 @@
 ghost use mathlib.Core.Path.{_≡_};
 ghost use Prim.Native.Nat.{_≤_};
 ghost use lib.ListN.{length};
-ghost use Rattle.text.specs.Parts.{endFrom};
-ghost use Rattle.feature.specs.Feature.{setsOf, featureOf, rowsAfter, floatsAfter};
+ghost use Rattle.lexer.specs.Refusal.{refusalAt};
+ghost use Rattle.feature.specs.declared.feature.Feature.the-variants.{Refused};
+ghost use Rattle.feature.specs.Feature.{featureSize, setsOf, featureOf, answerOf, spansAfter, floatsAfter};
 ghost use Rattle.feature.specs.Inner.{FieldsBy};
 use crate::field;
 use crate::field::Field;
 use checker::property::set_at;
 use evaluator::values::store;
+use lexer::refusal::Refusal;
+use plan::layout::Floats;
+use plan::layout::PROPERTIES;
+use plan::layout::Plan;
+use plan::layout::Spans;
+use plan::numbers::number_at;
+use text::head::is_feature;
 use text::part;
 use text::part::TAB;
-use value::equality::same_part;
 
-// Page 01's number and place of the refusal, or that the values are stored.
+// The refusal, or that the values are stored.
 pub enum Feature {
-    Refused { number: u8, place: usize },
+    Refused(Refusal),
     Read,
 }
 
@@ -23,37 +30,37 @@ const MOST_BYTES: usize = 4096;
 
 const MOST_FEATURES: usize = 999_999;
 
+fn refused(number: u8, place: usize) -> Feature
+    ensures { λ r. ⌜ r ≡ Refused (refusalAt number place) ⌝ }
+{
+    Feature::Refused(Refusal { number, place })
+}
+
 // The fields in turn, from behind the first tab on. Each value is stored for its property, up to the
 // first field that doesn't conform.
 fn read_fields(
-    sets: &[u8; 48],
+    plan: &Plan,
     properties: usize,
     line: &[u8],
-    word: usize,
-    rows: &mut [usize; 144],
-    floats: &mut [f64; 192],
+    spans: &mut Spans,
+    floats: &mut Floats,
 ) -> Feature
-    requires { ⌜ (length (now line) ≤ 4096) × (word ≡ endFrom 9 (now line) 0) ⌝ }
-    ensures { λ r. ⌜ FieldsBy (now (sets .entry)) properties (now (line .entry)) (now (rows .entry)) (now (floats .entry)) (now (rows .exit)) (now (floats .exit)) r ⌝ }
+    requires { ⌜ length (now line) ≤ featureSize ⌝ }
+    ensures { λ r. ⌜ FieldsBy (now (plan .entry)) properties (now (line .entry)) (now (spans .entry)) (now (floats .entry))
+        (now (spans .exit)) (now (floats .exit)) r ⌝ }
 {
     if part::count(TAB, line) - 1 != properties {
-        return Feature::Refused {
-            number: 9,
-            place: line.len(),
-        };
+        return refused(9, line.len());
     }
-    let mut at = word + 1;
+    let mut at = part::end(TAB, line, 0) + 1;
     let mut i = 0;
     while i < properties {
         let end = part::end(TAB, line, at);
-        match field::conforming(set_at(sets, i), field::read(line, at, end)) {
+        match field::conforming(set_at(plan, i), field::read(line, at, end)) {
             Field::Unread => {
-                return Feature::Refused {
-                    number: 9,
-                    place: at,
-                };
+                return refused(9, at);
             }
-            Field::Read(value) => store(rows, floats, i, value),
+            Field::Read(value) => store(spans, floats, i, value),
         }
         at = end + 1;
         i += 1;
@@ -61,37 +68,26 @@ fn read_fields(
     Feature::Read
 }
 
-// Reads a line with a field for each of some properties, whose sets of kinds lie in bytes, and stores
-// their values.
+// Reads a line with a field for each property of a plan, and stores their values.
 pub fn read(
-    sets: &[u8; 48],
-    properties: usize,
+    plan: &Plan,
     number: usize,
     line: &[u8],
-    rows: &mut [usize; 144],
-    floats: &mut [f64; 192],
+    spans: &mut Spans,
+    floats: &mut Floats,
 ) -> Feature
-    ensures answer { λ r. ⌜ r ≡ featureOf (setsOf (now (sets .entry)) properties) number (now (line .entry)) ⌝ }
-    ensures values { λ _. ⌜ (now (rows .exit) ≡ rowsAfter (setsOf (now (sets .entry)) properties) number (now (line .entry)) (now (rows .entry))) × (now (floats .exit) ≡ floatsAfter (setsOf (now (sets .entry)) properties) number (now (line .entry)) (now (floats .entry))) ⌝ }
+    ensures answer { λ r. ⌜ answerOf r ≡ featureOf (setsOf (now (plan .entry))) number (now (line .entry)) ⌝ }
+    ensures values { λ _. ⌜ (now (spans .exit) ≡ spansAfter (setsOf (now (plan .entry))) number (now (line .entry)) (now (spans .entry)))
+        × (now (floats .exit) ≡ floatsAfter (setsOf (now (plan .entry))) number (now (line .entry)) (now (floats .entry))) ⌝ }
 {
     if MOST_BYTES < line.len() {
-        return Feature::Refused {
-            number: 1,
-            place: MOST_BYTES,
-        };
+        return refused(1, MOST_BYTES);
     }
     if MOST_FEATURES < number {
-        return Feature::Refused {
-            number: 1,
-            place: MOST_FEATURES,
-        };
+        return refused(1, MOST_FEATURES);
     }
-    let word = part::end(TAB, line, 0);
-    if !same_part(line, 0, word, b"feat", 0, 4) {
-        return Feature::Refused {
-            number: 9,
-            place: 0,
-        };
+    if !is_feature(line) {
+        return refused(9, 0);
     }
-    read_fields(sets, properties, line, word, rows, floats)
+    read_fields(plan, number_at(plan, PROPERTIES), line, spans, floats)
 }

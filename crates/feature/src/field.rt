@@ -6,7 +6,7 @@ ghost use lib.Seq.{slice};
 ghost use Rattle.feature.specs.Field.{stringOf, fieldOf, conformed};
 use crate::numeral::numbers;
 use kind::set::Kinds;
-use value::equality::same_part;
+use lexer::bytes::same_part;
 use value::value::Span;
 use value::value::Value;
 use value::value::kind_of;

@@ -1,7 +1,7 @@
 // Refusals as the files have them.
-use crate::report;
 use cases::line;
 use feature::feature::Feature;
+use reports::report;
 use style::check::Checked;
 
 // The number is 0 for none.
@@ -21,9 +21,9 @@ pub(crate) fn of_head(checked: Checked) -> Answer {
     match checked {
         Checked::Accepted => NONE,
         Checked::Refused(r) => Answer {
-            number: r.number as u64,
+            number: r.refusal.number as u64,
             line: r.line as u64,
-            place: r.place as u64,
+            place: r.refusal.place as u64,
         },
     }
 }
@@ -32,19 +32,19 @@ pub(crate) fn of_head(checked: Checked) -> Answer {
 pub(crate) fn of_feature(feature: Feature) -> Answer {
     match feature {
         Feature::Read => NONE,
-        Feature::Refused { number, place } => Answer {
-            number: number as u64,
+        Feature::Refused(r) => Answer {
+            number: r.number as u64,
             line: 0,
-            place: place as u64,
+            place: r.place as u64,
         },
     }
 }
 
 fn print(a: Answer) {
     report::text(b"got");
-    report::digits(a.number, 1);
-    report::digits(a.line, 4);
-    report::digits(a.place, 5);
+    report::hex(b" ", a.number, 1);
+    report::hex(b" ", a.line, 4);
+    report::hex(b" ", a.place, 5);
     report::text(b"\n");
 }
 

@@ -2,28 +2,34 @@
 use crate::answer;
 use crate::expressions;
 use crate::names;
-use crate::read;
-use crate::report;
 use crate::rooms;
 use crate::rooms::SLOTS;
 use crate::rooms::UNUSED;
 use cases::line;
 use cases::tally;
 use cases::tally::Outcome;
+use plan::layout::COLOURS;
+use plan::layout::CONDITIONS;
+use plan::layout::DEFINES;
+use plan::layout::PLAN;
+use plan::layout::PROPERTIES;
+use plan::layout::Plan;
+use plan::layout::SHOWS;
+use plan::numbers::number_at;
+use reports::read;
+use reports::report;
 use style::check::check;
 use style::head::compile;
-use style::tables::Counts;
-use style::tables::Tables;
 
 const LINE: usize = 38;
 
 // How many lines there are of each word.
-fn counts_agree(name: &[u8], line: &[u8], head: &[u8], counts: Counts) -> bool {
-    let same = (line::number(line, 22, 24) == counts.properties as u64)
-        & (line::number(line, 25, 27) == counts.defines as u64)
-        & (line::number(line, 28, 30) == counts.conditions as u64)
-        & (line::number(line, 31, 32) == counts.shows as u64)
-        & (line::number(line, 33, 34) == counts.colours as u64);
+fn counts_agree(name: &[u8], line: &[u8], head: &[u8], plan: &Plan) -> bool {
+    let same = (line::number(line, 22, 24) == number_at(plan, PROPERTIES) as u64)
+        & (line::number(line, 25, 27) == number_at(plan, DEFINES) as u64)
+        & (line::number(line, 28, 30) == number_at(plan, CONDITIONS) as u64)
+        & (line::number(line, 31, 32) == number_at(plan, SHOWS) as u64)
+        & (line::number(line, 33, 34) == number_at(plan, COLOURS) as u64);
     if same {
         return true;
     }
@@ -37,32 +43,29 @@ fn check_agrees(name: &[u8], line: &[u8], head: &[u8], slots: &mut [u16]) -> boo
     answer::head_agrees(name, line, head, a) & rooms::agree(name, line, head, slots, a.number)
 }
 
-// The counts of a refused head are not looked at. Names and expressions are read in any case: a head
-// that is to be refused has none.
-fn tables_agree(
-    fd: i32,
+// Of an accepted head the counts. A refused one leaves the plan as it was, and the room as a check does.
+fn plan_agrees(
     name: &[u8],
     line: &[u8],
     head: &[u8],
     slots: &[u16],
-    tables: Tables,
-    accepted: bool,
+    plan: &Plan,
+    number: u64,
 ) -> bool {
-    let same = names::agree(fd, name, line, head, tables)
-        & expressions::agree(fd, name, line, head, slots, tables);
-    if accepted {
-        return counts_agree(name, line, head, tables.counts) & same;
+    if number == 0 {
+        return counts_agree(name, line, head, plan);
     }
-    same
+    rooms::agree(name, line, head, slots, number) & rooms::untouched(name, line, head, plan)
 }
 
+// Names and expressions are read in any case: a head that is to be refused has none.
 fn compile_agrees(fd: i32, name: &[u8], line: &[u8], head: &[u8], slots: &mut [u16]) -> bool {
-    let compiled = compile(head, slots);
-    let checked = compiled.answer;
-    let tables = compiled.tables;
-    let a = answer::of_head(checked);
+    let mut plan = [UNUSED; PLAN];
+    let a = answer::of_head(compile(head, &mut plan, slots));
     answer::head_agrees(name, line, head, a)
-        & tables_agree(fd, name, line, head, slots, tables, a.number == 0)
+        & plan_agrees(name, line, head, slots, &plan, a.number)
+        & names::agree(fd, name, line, head, &plan)
+        & expressions::agree(fd, name, line, head, slots, &plan)
 }
 
 // Each gets room that is not zero.
@@ -74,29 +77,26 @@ fn rooms_agree(fd: i32, name: &[u8], line: &[u8], head: &[u8]) -> bool {
         return check_agrees(name, line, head, &mut first[..size])
             & compile_agrees(fd, name, line, head, &mut second[..size]);
     }
-    report::malformed(name, line);
-    false
+    report::malformed(name, line)
 }
 
 fn text_agrees(fd: i32, name: &[u8], line: &[u8], head: &mut [u8]) -> bool {
     if read::text(fd, head) {
         return rooms_agree(fd, name, line, head);
     }
-    report::malformed(name, line);
-    false
+    report::malformed(name, line)
 }
 
 // A line that is malformed does not agree.
 fn agrees(fd: i32, name: &[u8], line: &[u8]) -> bool {
     let length = line::number(line, 5, 9) as usize;
     if line::fits(line, b"hhhh hhhh h hhhh hhhh hh hh hh h h hh\n") {
-        if length <= read::HEAD {
-            let mut head = [0u8; read::HEAD];
+        if length <= rooms::HEAD {
+            let mut head = [0u8; rooms::HEAD];
             return text_agrees(fd, name, line, &mut head[..length]);
         }
     }
-    report::malformed(name, line);
-    false
+    report::malformed(name, line)
 }
 
 // Nothing more to read is the end.

@@ -6,8 +6,6 @@ mod expressions;
 mod feature_case;
 mod head_case;
 mod names;
-mod read;
-mod report;
 mod rooms;
 mod values;
 
@@ -15,6 +13,7 @@ use cases::tally;
 use cases::tally::Outcome;
 use cases::tally::Tally;
 use cases::tally::sum;
+use reports::report;
 
 // What the cases of a file are.
 enum Cases {
@@ -44,13 +43,11 @@ fn count_cases(cases: Cases, fd: i32, name: &[u8]) -> Tally {
 fn run(cases: Cases, name: &[u8]) -> Tally {
     let fd = os::open_read(name);
     if fd < 0 {
-        report::missing(name);
-        return tally::MISSING;
+        return report::missing(name);
     }
     let t = count_cases(cases, fd, name);
     libc::close(fd);
-    report::counts(name, t);
-    t
+    report::counts(name, t)
 }
 
 fn heads(name: &[u8]) -> Tally {

@@ -1,11 +1,13 @@
-// The values of a feature, each part on a line: the property's row, the kind, the index of the part,
+// The values of a feature, each part on a line: the property's number, the kind, the index of the part,
 // and a number's pattern, a string's two places, or 1 for true.
-use crate::report;
 use cases::line;
 use evaluator::values::value_at;
 use kind::kind::dimension;
 use kind::kind::number;
 use number::bits::to_bits;
+use plan::layout::Floats;
+use plan::layout::Spans;
+use reports::report;
 use value::value::Span;
 use value::value::Value;
 use value::value::component;
@@ -50,13 +52,13 @@ fn one_agrees(
     name: &[u8],
     line: &[u8],
     feature: &[u8],
-    rows: &[usize; 144],
-    floats: &[f64; 192],
+    spans: &Spans,
+    floats: &Floats,
 ) -> bool {
     let mut part = [0u8; LINE];
     let n = io::read_full(fd, &mut part);
-    let row = line::number(&part[..n], 0, 2) as usize;
-    if value_agrees(&part[..n], value_at(rows, floats, row)) {
+    let property = line::number(&part[..n], 0, 2) as usize;
+    if value_agrees(&part[..n], value_at(spans, floats, property)) {
         return true;
     }
     report::text_difference(name, line, feature);
@@ -71,12 +73,12 @@ pub(crate) fn agree(
     name: &[u8],
     line: &[u8],
     feature: &[u8],
-    rows: &[usize; 144],
-    floats: &[f64; 192],
+    spans: &Spans,
+    floats: &Floats,
 ) -> bool {
     let mut same = true;
     for _ in 0..line::number(line, 35, 37) {
-        same = one_agrees(fd, name, line, feature, rows, floats) & same;
+        same = one_agrees(fd, name, line, feature, spans, floats) & same;
     }
     same
 }

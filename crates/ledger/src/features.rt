@@ -5,7 +5,11 @@ use crate::input;
 use crate::writer;
 use painter::apply::apply;
 use painter::print;
-use style::tables::Tables;
+use plan::layout::FLOATS;
+use plan::layout::Floats;
+use plan::layout::Plan;
+use plan::layout::SPANS;
+use plan::layout::Spans;
 use text::part;
 
 // The first number that is refused. The output ends with its line.
@@ -27,38 +31,53 @@ struct Progress {
     pub waiting: usize,
     // Whether the block begins inside a line that is done, because it was too long.
     pub inside: bool,
+    // Whether the input ends with the block.
+    pub input_ends: bool,
 }
 
 // The length of a feature's line, which is written at the front.
 fn line(
     head: &[u8],
-    tables: Tables,
+    plan: &Plan,
     slots: &[u16],
     feature: &[u8],
     number: usize,
     out: &mut [u8],
+    spans: &mut Spans,
+    floats: &mut Floats,
 ) -> usize
     ensures { λ r. ⌜ r ≤ length (now (out .entry)) ⌝ }
 {
-    let answer = apply(head, tables, slots, feature, number, out);
+    let answer = apply(head, plan, slots, feature, number, out, spans, floats);
     print::line(answer, number, out)
 }
 
-// How many bytes wait with that line behind the others.
+// How many bytes wait with the next line behind the others.
 fn add(
     head: &[u8],
-    tables: Tables,
+    plan: &Plan,
     slots: &[u16],
     feature: &[u8],
-    number: usize,
     out: &mut [u8],
-    waiting: usize,
+    spans: &mut Spans,
+    floats: &mut Floats,
+    p: Progress,
 ) -> usize
-    requires { ⌜ waiting ≤ length (now out) ⌝ }
+    requires { ⌜ p .waiting ≤ length (now out) ⌝ }
     ensures { λ r. ⌜ r ≤ length (now (out .entry)) ⌝ }
 {
-    let at = writer::place(out, waiting);
-    at + line(head, tables, slots, feature, number, &mut out[at..])
+    let at = writer::place(out, p.waiting);
+    at
+        + line(
+            head,
+            plan,
+            slots,
+            feature,
+            p.number,
+            &mut out[at..],
+            spans,
+            floats,
+        )
 }
 
 // Passes over the rest of a line that is done.
@@ -80,16 +99,19 @@ fn begin(block: &[u8], p: Progress) -> Progress
         number: p.number,
         waiting: p.waiting,
         inside,
+        input_ends: p.input_ends,
     }
 }
 
 // The lines that an LF ends.
 fn ended_lines(
     head: &[u8],
-    tables: Tables,
+    plan: &Plan,
     slots: &[u16],
     block: &[u8],
     out: &mut [u8],
+    spans: &mut Spans,
+    floats: &mut Floats,
     p: Progress,
 ) -> Progress
     requires at { ⌜ p .at ≤ length (now block) ⌝ }
@@ -97,33 +119,34 @@ fn ended_lines(
     ensures at { λ r. ⌜ r .at ≤ length (now (block .entry)) ⌝ }
     ensures waiting { λ r. ⌜ r .waiting ≤ length (now (out .entry)) ⌝ }
 {
-    let mut at = p.at;
-    let mut number = p.number;
-    let mut waiting = p.waiting;
-    while number <= LAST {
+    let mut q = p;
+    while q.number <= LAST {
+        let at = q.at;
         let end = part::end(part::LINE_FEED, block, at);
         if block.len() <= end {
             break;
         }
-        waiting = add(head, tables, slots, &block[at..end], number, out, waiting);
-        at = end + 1;
-        number += 1;
+        let waiting = add(head, plan, slots, &block[at..end], out, spans, floats, q);
+        q = Progress {
+            at: end + 1,
+            number: q.number + 1,
+            waiting,
+            inside: q.inside,
+            input_ends: q.input_ends,
+        };
     }
-    Progress {
-        at,
-        number,
-        waiting,
-        inside: p.inside,
-    }
+    q
 }
 
 // The bytes behind the last LF as a line.
 fn last_line(
     head: &[u8],
-    tables: Tables,
+    plan: &Plan,
     slots: &[u16],
     block: &[u8],
     out: &mut [u8],
+    spans: &mut Spans,
+    floats: &mut Floats,
     p: Progress,
 ) -> Progress
     requires at { ⌜ p .at ≤ length (now block) ⌝ }
@@ -133,13 +156,13 @@ fn last_line(
     ensures waiting { λ r. ⌜ r .waiting ≤ length (now (out .entry)) ⌝ }
 {
     let at = p.at;
-    let number = p.number;
-    let waiting = add(head, tables, slots, &block[at..], number, out, p.waiting);
+    let waiting = add(head, plan, slots, &block[at..], out, spans, floats, p);
     Progress {
         at: block.len(),
-        number: number + 1,
+        number: p.number + 1,
         waiting,
         inside: true,
+        input_ends: p.input_ends,
     }
 }
 
@@ -147,22 +170,32 @@ fn last_line(
 // or if it is too long already.
 fn lines(
     head: &[u8],
-    tables: Tables,
+    plan: &Plan,
     slots: &[u16],
     block: &[u8],
-    input_ends: bool,
     out: &mut [u8],
+    spans: &mut Spans,
+    floats: &mut Floats,
     p: Progress,
 ) -> Progress
     requires { ⌜ p .waiting ≤ length (now out) ⌝ }
     ensures at { λ r. ⌜ r .at ≤ length (now (block .entry)) ⌝ }
     ensures waiting { λ r. ⌜ r .waiting ≤ length (now (out .entry)) ⌝ }
 {
-    let q = ended_lines(head, tables, slots, block, out, begin(block, p));
+    let q = ended_lines(
+        head,
+        plan,
+        slots,
+        block,
+        out,
+        spans,
+        floats,
+        begin(block, p),
+    );
     let left = block.len() - q.at;
     if q.number <= LAST {
-        if (input_ends & (0 < left)) | (MOST_BYTES < left) {
-            return last_line(head, tables, slots, block, out, q);
+        if (p.input_ends & (0 < left)) | (MOST_BYTES < left) {
+            return last_line(head, plan, slots, block, out, spans, floats, q);
         }
     }
     q
@@ -172,11 +205,13 @@ fn lines(
 // of the output wait.
 fn all_lines(
     head: &[u8],
-    tables: Tables,
+    plan: &Plan,
     slots: &[u16],
     block: &mut [u8],
     held: usize,
     out: &mut [u8],
+    spans: &mut Spans,
+    floats: &mut Floats,
 ) -> usize
     requires { ⌜ held ≤ length (now block) ⌝ }
     ensures { λ r. ⌜ r ≤ length (now (out .entry)) ⌝ }
@@ -187,12 +222,13 @@ fn all_lines(
         number: 1,
         waiting: 0,
         inside: false,
+        input_ends: false,
     };
     for _ in 0..MOST_BLOCKS {
         let end = input::fill(block, kept);
-        let input_ends = end < block.len();
-        p = lines(head, tables, slots, &block[..end], input_ends, out, p);
-        if input_ends | (LAST < p.number) {
+        p.input_ends = end < block.len();
+        p = lines(head, plan, slots, &block[..end], out, spans, floats, p);
+        if p.input_ends | (LAST < p.number) {
             return p.waiting;
         }
         kept = input::keep(block, p.at);
@@ -200,9 +236,10 @@ fn all_lines(
     p.waiting
 }
 
+// The arrays for the values of a feature are lent to each in turn.
 pub(crate) fn print(
     head: &[u8],
-    tables: Tables,
+    plan: &Plan,
     slots: &[u16],
     block: &mut [u8],
     held: usize,
@@ -210,6 +247,8 @@ pub(crate) fn print(
 )
     requires { ⌜ held ≤ length (now block) ⌝ }
 {
-    let waiting = all_lines(head, tables, slots, block, held, out);
+    let mut spans = [0usize; SPANS];
+    let mut floats = [0.0f64; FLOATS];
+    let waiting = all_lines(head, plan, slots, block, held, out, &mut spans, &mut floats);
     writer::text(&out[..waiting]);
 }

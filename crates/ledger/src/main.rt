@@ -6,11 +6,12 @@ mod writer;
 use output::line::LONGEST;
 use output::line::refused_head;
 use output::page;
+use plan::layout::PLAN;
+use plan::layout::Plan;
 use style::check::Checked;
-use style::check::Refusal;
+use style::check::LineRefusal;
 use style::head::ROOM_SIZE;
 use style::head::compile;
-use style::tables::Tables;
 use text::head::head_end;
 
 // More bytes than a head may have, so that one that is too long is seen to be.
@@ -19,29 +20,27 @@ const WINDOW: usize = 65536;
 // More than the window has, so that what it holds of the features fits.
 const BLOCK: usize = 131072;
 
-fn print_refusal(r: Refusal) {
+fn print_refusal(r: LineRefusal) {
     let mut line = [0u8; LONGEST];
-    let end = refused_head(&mut line, r.number, r.line, r.place);
+    let end = refused_head(&mut line, r.refusal.number, r.line, r.refusal.place);
     writer::text(&line[..end]);
 }
 
 // Lends the blocks of the input and of the output. The first bytes of the features are read already.
-fn print_features(head: &[u8], tables: Tables, slots: &[u16], first: &[u8]) {
+fn print_features(head: &[u8], plan: &Plan, slots: &[u16], first: &[u8]) {
     let mut block = [0u8; BLOCK];
     let mut out = [0u8; BLOCK];
     let held = page::text(&mut block, 0, first);
-    features::print(head, tables, slots, &mut block, held, &mut out);
+    features::print(head, plan, slots, &mut block, held, &mut out);
 }
 
 fn print(window: &[u8]) {
     let end = head_end(window);
     let mut slots = [0u16; ROOM_SIZE];
-    let compiled = compile(&window[..end], &mut slots);
-    let answer = compiled.answer;
-    let tables = compiled.tables;
-    match answer {
+    let mut plan = [0u16; PLAN];
+    match compile(&window[..end], &mut plan, &mut slots) {
         Checked::Refused(r) => print_refusal(r),
-        Checked::Accepted => print_features(&window[..end], tables, &slots, &window[end..]),
+        Checked::Accepted => print_features(&window[..end], &plan, &slots, &window[end..]),
     }
 }
 

@@ -6,7 +6,7 @@ use output::page;
 use painter::paint::paint;
 use painter::print;
 use style::check::Checked;
-use style::check::Refusal;
+use style::check::LineRefusal;
 use style::check::check;
 use text::head::head_end;
 use text::part;
@@ -40,11 +40,12 @@ fn lines(head: &[u8], features: &[u8], slots: &mut [u16], out: &mut [u8], headin
 }
 
 // Where the line of a refused head ends, behind the heading.
-fn refused(r: Refusal, out: &mut [u8], heading: usize) -> usize
+fn refused(r: LineRefusal, out: &mut [u8], heading: usize) -> usize
     requires { ⌜ heading ≤ length (now out) ⌝ }
     ensures { λ end. ⌜ end ≤ length (now (out .entry)) ⌝ }
 {
-    heading + refused_head(&mut out[heading..], r.number, r.line, r.place)
+    let refusal = r.refusal;
+    heading + refused_head(&mut out[heading..], refusal.number, r.line, refusal.place)
 }
 
 // Where the output ends.

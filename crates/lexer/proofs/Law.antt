@@ -4,3 +4,4 @@ pub mod Forms
 pub mod Ahead
 pub mod Scanning
 pub mod Spelling
+pub mod Texts

@@ -2,13 +2,12 @@
 use mathlib.Core.Bool.{true, false, cond}
 use Prim.Native.Nat.{ℕ, _+_, _-_}
 use lib.Dec.{ltb}
+use Rattle.lexer.specs.Refusal.{refusalAt, Judged, refused, fine}
 use Rattle.lexer.specs.Scan.{bracketOf}
 use Rattle.lexer.specs.declared.token.Token.{Token}
 use Rattle.lexer.specs.declared.scan.Bracket.{Bracket}
 use Rattle.lexer.specs.declared.scan.Bracket.the-variants.{Opens, Closes, Neither}
 use Rattle.lexer.specs.declared.scan.Brackets.{Brackets}
-use Rattle.lexer.specs.declared.scan.Verdict.{Verdict}
-use Rattle.lexer.specs.declared.scan.Verdict.the-variants.{Fine, Refused}
 
 -- n brackets are open, and none was too many
 abbrev pub noneOver : ℕ → Brackets
@@ -28,5 +27,5 @@ changed Neither seen at = seen
 abbrev pub nextBrackets : Brackets → Token → ℕ → Brackets
 nextBrackets seen token at = cond (seen .over) seen (changed (bracketOf token) seen at)
 
-abbrev pub bracketVerdict : Brackets → Verdict
-bracketVerdict seen = cond (seen .over) (Refused 3 (seen .place)) Fine
+abbrev pub bracketVerdict : Brackets → Judged (Unit {0})
+bracketVerdict seen = cond (seen .over) (refused (refusalAt 3 (seen .place))) (fine tt)

@@ -1,3 +1,4 @@
+pub mod Refusal
 pub mod Bytes
 pub mod Punctuator
 pub mod Token

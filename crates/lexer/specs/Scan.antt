@@ -3,6 +3,7 @@ use mathlib.Core.Bool.{true, false, cond}
 use mathlib.Core.List.{List, [], _∷_}
 use Prim.Native.Nat.{ℕ, suc, _-_}
 use lib.Dec.{eqb, ltb}
+use Rattle.lexer.specs.Refusal.{refusalAt, Judged, refused, fine}
 use Rattle.lexer.specs.Tokens.{Placed, placed, Lexed, tokens, badAt, tokensFrom, tokensOf}
 use Rattle.lexer.specs.declared.token.Token.{Token}
 use Rattle.lexer.specs.declared.token.Token.the-variants.{Number, String, Variable, Word, Punctuator}
@@ -24,19 +25,24 @@ bracketOf (Word k) = Neither
 bracketOf (Punctuator k) = punctuatorBracket k
 
 -- "32 round brackets open at once (a `)` with none open changes nothing)": where the first stands that is the 33rd, when n are open before these tokens
-unfoldable pub bracketsIn : ℕ → List Placed → Verdict
-bracketsIn n [] = Fine
+unfoldable pub bracketsIn : ℕ → List Placed → Judged (Unit {0})
+bracketsIn n [] = fine tt
 bracketsIn n (placed t at end ∷ ts) = elim (bracketOf t) [
-  | Opens ↦ elim (ltb n 32) [ true ↦ bracketsIn (suc n) ts | false ↦ Refused 3 at ]
+  | Opens ↦ elim (ltb n 32) [ true ↦ bracketsIn (suc n) ts | false ↦ refused (refusalAt 3 at) ]
   | Closes ↦ bracketsIn (n - 1) ts
   | Neither ↦ bracketsIn n ts
 ]
 
 -- 2 over the whole text before 3
-abbrev pub verdictOf : Lexed → Verdict
+abbrev pub verdictOf : Lexed → Judged (Unit {0})
 verdictOf (tokens ts) = bracketsIn 0 ts
-verdictOf (badAt p) = Refused 2 p
+verdictOf (badAt p) = refused (refusalAt 2 p)
 
-unfoldable pub scanOf : List ℕ → Verdict
+unfoldable pub scanOf : List ℕ → Judged (Unit {0})
 unfolding tokensFrom bracketsIn
 scanOf text = verdictOf (tokensOf text)
+
+-- what the answer of `scan` says
+abbrev pub answerOf : Verdict → Judged (Unit {0})
+answerOf Fine = fine tt
+answerOf (Refused r) = refused r

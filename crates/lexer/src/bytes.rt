@@ -1,9 +1,10 @@
 // Classes of bytes, and runs of them in a text. Digits are those of the crate `number`.
 ghost use mathlib.Core.Path.{_≡_};
 ghost use mathlib.Core.List.{_∷_, []};
-ghost use Prim.Native.Nat.{_+_, _≤_};
+ghost use Prim.Native.Nat.{_+_, _≤_, min};
 ghost use lib.ListN.{length, drop, getD};
-ghost use Rattle.lexer.specs.Bytes.{isSpace, isLetter, isHexDigit, isNameByte, isNameLength, isWordStart, isQuote, inClass, run, begins};
+ghost use lib.Seq.{slice};
+ghost use Rattle.lexer.specs.Bytes.{isSpace, isLetter, isHexDigit, isNameByte, isNameLength, isWordStart, isQuote, inClass, run, begins, same};
 pub use number::decimal::is_digit;
 
 // What a run is made of.
@@ -119,4 +120,24 @@ pub fn has_word(text: &[u8], at: usize, word: &[u8]) -> bool
         i += 1;
     }
     true
+}
+
+// The lesser of two places.
+pub fn least(a: usize, b: usize) -> usize
+    ensures is { λ r. ⌜ r ≡ min a b ⌝ }
+    ensures first { λ r. ⌜ r ≤ a ⌝ }
+    ensures second { λ r. ⌜ r ≤ b ⌝ }
+{
+    if a < b { a } else { b }
+}
+
+// Whether parts of two texts are the same. A part goes no further than its text.
+pub fn same_part(a: &[u8], start: usize, end: usize, b: &[u8], from: usize, to: usize) -> bool
+    ensures { λ r. ⌜ r ≡ same (slice start end (now (a .entry))) (slice from to (now (b .entry))) ⌝ }
+{
+    let stop = least(end, a.len());
+    let begin = least(start, stop);
+    let last = least(to, b.len());
+    let first = least(from, last);
+    check::same(&a[begin..stop], &b[first..last])
 }

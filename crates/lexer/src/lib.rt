@@ -2,6 +2,7 @@
 // is refused (2), and so is the 33rd round bracket open at once (3).
 pub mod bytes;
 pub mod punctuator;
+pub mod refusal;
 pub mod scan;
 pub mod token;
 pub mod word;

@@ -1,10 +1,11 @@
 // The first look at an expression: whether all of it is tokens (2), and no round bracket is one too
 // many (3).
 ghost use mathlib.Core.Path.{_≡_};
-ghost use Rattle.lexer.specs.Scan.{punctuatorBracket, bracketOf, scanOf};
+ghost use Rattle.lexer.specs.Scan.{punctuatorBracket, bracketOf, scanOf, answerOf};
 ghost use Rattle.lexer.specs.Inner.{noneOver, openedAt, closedBy, nextBrackets, bracketVerdict};
 use crate::punctuator::CLOSE_ROUND;
 use crate::punctuator::OPEN_ROUND;
+use crate::refusal::Refusal;
 use crate::token::Lexeme;
 use crate::token::Token;
 use crate::token::token_at;
@@ -12,7 +13,7 @@ use crate::token::token_at;
 // What page 01's table says of a text: nothing against it, or a refusal.
 pub enum Verdict {
     Fine,
-    Refused { number: u8, place: usize },
+    Refused(Refusal),
 }
 
 // What a token does to the round brackets that are open.
@@ -110,13 +111,13 @@ fn next_brackets(seen: Brackets, token: Token, at: usize) -> Brackets
 }
 
 fn bracket_verdict(seen: Brackets) -> Verdict
-    ensures { λ r. ⌜ r ≡ bracketVerdict seen ⌝ }
+    ensures { λ r. ⌜ answerOf r ≡ bracketVerdict seen ⌝ }
 {
     if seen.over {
-        Verdict::Refused {
+        Verdict::Refused(Refusal {
             number: 3,
             place: seen.place,
-        }
+        })
     } else {
         Verdict::Fine
     }
@@ -124,7 +125,7 @@ fn bracket_verdict(seen: Brackets) -> Verdict
 
 // The first place of 2 in a text, else the place of the 33rd round bracket open at once.
 pub fn scan(text: &[u8]) -> Verdict
-    ensures { λ r. ⌜ r ≡ scanOf (now (text .entry)) ⌝ }
+    ensures { λ r. ⌜ answerOf r ≡ scanOf (now (text .entry)) ⌝ }
 {
     let mut from = 0;
     let mut seen = counted(0);
@@ -135,10 +136,10 @@ pub fn scan(text: &[u8]) -> Verdict
                 from = end;
             }
             Lexeme::Bad { at, end: _ } => {
-                return Verdict::Refused {
+                return Verdict::Refused(Refusal {
                     number: 2,
                     place: at,
-                };
+                });
             }
             Lexeme::End => {
                 return bracket_verdict(seen);

@@ -1,14 +1,14 @@
 // One case of a file: a line, and behind it the text that the case is about.
 use crate::classes;
 use crate::places;
-use crate::read;
-use crate::report;
 use crate::runs;
 use crate::stands;
 use crate::texts;
 use cases::line;
 use cases::tally;
 use cases::tally::Outcome;
+use reports::read;
+use reports::report;
 ghost use Prim.Native.Nat.{_≤_};
 
 // What the cases of a file are about.
@@ -46,8 +46,7 @@ fn is_well_formed(s: Subject, head: &[u8]) -> bool {
 // Reads the text behind the line and compares what the lexer says of it.
 fn text_agrees(fd: i32, name: &[u8], s: Subject, head: &[u8], text: &mut [u8]) -> bool {
     if !read::text(fd, text) {
-        report::malformed(name, head);
-        return false;
+        return report::malformed(name, head);
     }
     match s {
         Subject::Texts => texts::agrees(fd, name, head, text),
@@ -67,8 +66,7 @@ fn agrees(fd: i32, name: &[u8], s: Subject, head: &[u8]) -> bool {
             return text_agrees(fd, name, s, head, &mut room[..length]);
         }
     }
-    report::malformed(name, head);
-    false
+    report::malformed(name, head)
 }
 
 // Nothing more to read is the end.

@@ -1,15 +1,16 @@
 // Cases of which classes a byte is of: its line has 0 or 1 for each class, and the text is the byte.
 // The last is no class: whether a name may have as many bytes as the byte says.
-use crate::report;
+use crate::difference;
 use cases::line;
 use lexer::bytes;
+use reports::report;
 
 // Whether a class has the byte exactly if the line has 1 at the class's place.
 fn class_agrees(name: &[u8], head: &[u8], text: &[u8], at: usize, has: bool) -> bool {
     if has == (line::byte(head, at) == b'1') {
         return true;
     }
-    report::difference(name, text, at);
+    difference::front(name, text, at);
     report::text(b" differs\n");
     false
 }

@@ -1,9 +1,10 @@
 // What stands at a place of a text, as the lexer finds it and as a file expects it.
-use crate::report;
+use crate::difference;
 use cases::line;
 use lexer::token;
 use lexer::token::Lexeme;
 use lexer::token::Token;
+use reports::report;
 
 // The kind: N number, S string, V variable, W word, P punctuator, B bad, E end, and ? for a line
 // that is malformed. The value: a number's digits after the point, or a place in a list.
@@ -102,10 +103,10 @@ pub(crate) fn read(fd: i32) -> Answer {
 fn print(label: &[u8], a: Answer) {
     report::text(label);
     report::text(&[a.kind]);
-    report::field(b" ", a.value);
-    report::field(b" ", a.at);
-    report::field(b" ", a.end);
-    report::field(b" ", a.digits);
+    report::decimal(b" ", a.value);
+    report::decimal(b" ", a.at);
+    report::decimal(b" ", a.end);
+    report::decimal(b" ", a.digits);
 }
 
 // Whether the text has at a place what a file expects.
@@ -114,7 +115,7 @@ pub(crate) fn agrees(name: &[u8], text: &[u8], from: usize, wanted: Answer) -> b
     if is_same(got, wanted) {
         return true;
     }
-    report::difference(name, text, from);
+    difference::front(name, text, from);
     print(b" expected ", wanted);
     print(b" got ", got);
     report::text(b"\n");

@@ -2,10 +2,9 @@
 // cases there are and how many differ, and of each difference what was expected and what came.
 mod case;
 mod classes;
+mod difference;
 mod lexemes;
 mod places;
-mod read;
-mod report;
 mod runs;
 mod stands;
 mod texts;
@@ -15,6 +14,7 @@ use cases::tally;
 use cases::tally::Outcome;
 use cases::tally::Tally;
 use cases::tally::sum;
+use reports::report;
 
 fn count_cases(fd: i32, name: &[u8], s: Subject) -> Tally {
     let mut t = tally::NONE;
@@ -31,13 +31,11 @@ fn count_cases(fd: i32, name: &[u8], s: Subject) -> Tally {
 fn run(name: &[u8], s: Subject) -> Tally {
     let fd = os::open_read(name);
     if fd < 0 {
-        report::missing(name);
-        return tally::MISSING;
+        return report::missing(name);
     }
     let t = count_cases(fd, name, s);
     libc::close(fd);
-    report::counts(name, t);
-    t
+    report::counts(name, t)
 }
 
 fn single_tokens() -> Tally {

@@ -1,5 +1,5 @@
 // Cases of where a run of bytes of one class ends.
-use crate::report;
+use crate::difference;
 use cases::line;
 use lexer::bytes;
 use lexer::bytes::Class;
@@ -24,7 +24,7 @@ pub(crate) fn agrees(name: &[u8], head: &[u8], text: &[u8]) -> bool {
     if got == wanted {
         return true;
     }
-    report::difference(name, text, at);
-    report::answers(wanted, got);
+    difference::front(name, text, at);
+    difference::answers(wanted, got);
     false
 }

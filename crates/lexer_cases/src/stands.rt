@@ -1,8 +1,9 @@
 // Cases of whether a word stands at a place of a text. A word of one byte is asked for as a byte too.
-use crate::read;
-use crate::report;
+use crate::difference;
 use cases::line;
 use lexer::bytes;
+use reports::read;
+use reports::report;
 
 fn one_if(b: bool) -> u64 {
     if b { 1 } else { 0 }
@@ -29,10 +30,10 @@ fn word_agrees(name: &[u8], head: &[u8], text: &[u8], word: &[u8]) -> bool {
     if got == wanted {
         return true;
     }
-    report::difference(name, text, at);
+    difference::front(name, text, at);
     report::text(b" word ");
     report::text(word);
-    report::answers(wanted, got);
+    difference::answers(wanted, got);
     false
 }
 
@@ -41,8 +42,7 @@ fn read_word(fd: i32, name: &[u8], head: &[u8], text: &[u8], word: &mut [u8]) ->
     if read::text(fd, word) {
         return word_agrees(name, head, text, word);
     }
-    report::malformed(name, head);
-    false
+    report::malformed(name, head)
 }
 
 pub(crate) fn agrees(fd: i32, name: &[u8], head: &[u8], text: &[u8]) -> bool {
@@ -51,6 +51,5 @@ pub(crate) fn agrees(fd: i32, name: &[u8], head: &[u8], text: &[u8]) -> bool {
         let mut room = io::buffer();
         return read_word(fd, name, head, text, &mut room[..size]);
     }
-    report::malformed(name, head);
-    false
+    report::malformed(name, head)
 }

@@ -1,9 +1,9 @@
 // Cases of literals: a line has a text, a place in it, and what stands there.
-use crate::report;
 use cases::line;
 use number::bits::to_bits;
 use number::decimal;
 use number::decimal::Decimal;
+use reports::report;
 
 // What stands at a place: 0 nothing, 1 a number, 2 a number that is too long.
 pub(crate) struct Answer {
@@ -83,12 +83,12 @@ fn expected(text: &[u8]) -> Answer {
 }
 
 fn print(a: Answer) {
-    report::field(b" ", a.kind);
-    report::field(b" ", a.end);
-    report::field(b" ", a.digits);
-    report::field(b" ", a.places);
-    report::field(b" ", a.value);
-    report::field(b" ", a.negated);
+    report::hex(b" ", a.kind, 16);
+    report::hex(b" ", a.end, 16);
+    report::hex(b" ", a.digits, 16);
+    report::hex(b" ", a.places, 16);
+    report::hex(b" ", a.value, 16);
+    report::hex(b" ", a.negated, 16);
 }
 
 // Whether a case agrees. A line that is malformed does not.
@@ -100,8 +100,7 @@ pub(crate) fn is_right(name: &[u8], text: &[u8]) -> bool {
             return agrees(name, &text[0..length], at, expected(text));
         }
     }
-    report::malformed(name, text);
-    false
+    report::malformed(name, text)
 }
 
 fn agrees(name: &[u8], text: &[u8], at: u64, wanted: Answer) -> bool {
@@ -112,7 +111,7 @@ fn agrees(name: &[u8], text: &[u8], at: u64, wanted: Answer) -> bool {
     report::text(name);
     report::text(b" text ");
     report::text(text);
-    report::field(b" at ", at);
+    report::hex(b" at ", at, 16);
     report::text(b" expected");
     print(wanted);
     report::text(b" got");

@@ -2,7 +2,6 @@
 // prints how many cases there are and how many differ, and each difference on a line of its own.
 mod literals;
 mod numbers;
-mod report;
 
 use cases::tally;
 use cases::tally::Outcome;
@@ -10,6 +9,7 @@ use cases::tally::Tally;
 use cases::tally::compared;
 use cases::tally::sum;
 use numbers::Function;
+use reports::report;
 
 fn next_number(fd: i32, name: &[u8], f: Function) -> Outcome {
     let mut buffer = [0u8; numbers::LINE];
@@ -52,13 +52,11 @@ fn count_cases(fd: i32, name: &[u8], f: Function) -> Tally {
 fn run(name: &[u8], f: Function) -> Tally {
     let fd = os::open_read(name);
     if fd < 0 {
-        report::missing(name);
-        return tally::MISSING;
+        return report::missing(name);
     }
     let t = count_cases(fd, name, f);
     libc::close(fd);
-    report::counts(name, t);
-    t
+    report::counts(name, t)
 }
 
 fn roundings() -> Tally {

@@ -1,5 +1,4 @@
 // Cases of a function of up to three numbers: a line has its arguments and its result.
-use crate::report;
 use cases::line;
 use number::arithmetic;
 use number::bits::from_bits;
@@ -7,6 +6,7 @@ use number::bits::to_bits;
 use number::colour;
 use number::decimal;
 use number::rounding;
+use reports::report;
 
 pub(crate) const LINE: usize = 68;
 
@@ -74,8 +74,7 @@ fn byte(x: f64) -> u64 {
 pub(crate) fn is_right(name: &[u8], f: Function, text: &[u8]) -> bool {
     let form = b"hhhhhhhhhhhhhhhh hhhhhhhhhhhhhhhh hhhhhhhhhhhhhhhh hhhhhhhhhhhhhhhh\n";
     if !line::fits(text, form) {
-        report::malformed(name, text);
-        return false;
+        return report::malformed(name, text);
     }
     agrees(
         name,
@@ -95,11 +94,11 @@ fn agrees(name: &[u8], f: Function, c: Case) -> bool {
         return true;
     }
     report::text(name);
-    report::field(b" arguments ", c.x);
-    report::field(b" ", c.y);
-    report::field(b" ", c.z);
-    report::field(b" expected ", c.result);
-    report::field(b" got ", got);
+    report::hex(b" arguments ", c.x, 16);
+    report::hex(b" ", c.y, 16);
+    report::hex(b" ", c.z, 16);
+    report::hex(b" expected ", c.result, 16);
+    report::hex(b" got ", got, 16);
     report::text(b"\n");
     false
 }

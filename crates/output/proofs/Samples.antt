@@ -3,7 +3,7 @@ use mathlib.Core.Path.{_≡_, refl}
 use mathlib.Core.Bool.{true}
 use mathlib.Core.List.{[], _∷_, _++_}
 use Rattle.lexer.specs.Bytes.{ascii}
-use Rattle.output.specs.declared.line.Colouring.the-variants.{None}
+use Rattle.colour.specs.declared.colour.Colouring.the-variants.{None}
 use Rattle.output.specs.Line.{digitsOf, paintedLine, refusedFeature}
 
 -- `3→refused→9→5`; a tab is 9 and LF is 10

@@ -7,8 +7,8 @@ use native.Mathlib.Omega.{arith}
 use borrow.Author.Tests.{ltb-true, ltb-false}
 use lib.Dec.{ltb}
 use lib.ListN.{length, length-append}
-use Rattle.output.specs.declared.line.Colouring.{Colouring}
-use Rattle.output.specs.declared.line.Colouring.the-variants.{None, Of}
+use Rattle.colour.specs.declared.colour.Colouring.{Colouring}
+use Rattle.colour.specs.declared.colour.Colouring.the-variants.{None, Of}
 use Rattle.output.proofs.Law.Lines.{last-digit, digit-more}
 use Rattle.output.specs.Line.{decimalDigit, digitsOf, decimal, colourText, colouringText, truthText, paintedLine, refusedFeature, refusedHead}
 

@@ -7,8 +7,8 @@ use lib.ListN.{length, drop}
 use Rattle.lexer.specs.Bytes.{ascii}
 use Rattle.colour.specs.Colour.{bytesOf}
 use Rattle.colour.specs.declared.colour.Colour.{Colour}
-use Rattle.output.specs.declared.line.Colouring.{Colouring}
-use Rattle.output.specs.declared.line.Colouring.the-variants.{None, Of}
+use Rattle.colour.specs.declared.colour.Colouring.{Colouring}
+use Rattle.colour.specs.declared.colour.Colouring.the-variants.{None, Of}
 
 -- "an accepted one writes its line at the front and touches no byte after it": the line and its length; one that doesn't fit is left out, with the length 0
 unfoldable pub front : List ℕ → List ℕ → List ℕ × ℕ

@@ -4,12 +4,7 @@ ghost use Rattle.output.specs.Page.{written};
 ghost use Rattle.output.specs.Line.{front, decimalDigit, digitsOf, decimal, hexDigit, hexByte, colourText, colouringText, truthText, fieldOf, paintedLine, refusedFeature, refusedHead};
 use crate::page;
 use colour::colour::Colour;
-
-// The colour of a feature, or none.
-pub enum Colouring {
-    None,
-    Of(Colour),
-}
+use colour::colour::Colouring;
 
 // No `usize` has more decimal digits.
 const MOST_DIGITS: usize = 20;

@@ -1,7 +1,7 @@
--- An expression without conditional, `&&` or `||` that names no define is refused by 7 exactly if some feature that conforms makes it fail by itself. The feature gives each property its worst: nothing if it may be absent, else
--- null if it may be null, else a sample of its type.
+-- An expression without conditional, `&&` or `||` that names no define is refused by 7 exactly if some feature makes it fail by itself that reads as values of the style's properties, whoever has read the items. The feature gives each property its worst:
+-- nothing if it may be absent, else null if it may be null, else a sample of its type.
 use mathlib.Core.Path.{_≡_, refl, sym, _∙_, ap, ap₂}
-use mathlib.Core.Bool.{Bool, true, false, cond, true≢false}
+use mathlib.Core.Bool.{Bool, true, false, cond, true≢false, false≢true}
 use mathlib.Core.List.{List, [], _∷_, map}
 use mathlib.Core.Logic.{_↔_}
 use Prim.Native.Nat.{ℕ, suc, _+_, _≤_}
@@ -9,27 +9,28 @@ use native.Mathlib.Omega.{arith}
 use lib.Dec.{T}
 use lib.ListN.{length}
 use Rattle.lexer.specs.Bytes.{same}
+use Rattle.lexer.specs.Refusal.{fine, refusalAt}
 use Rattle.kind.specs.declared.set.Kinds.{Kinds}
 use Rattle.value.specs.Value.{textIn}
 use Rattle.value.specs.declared.value.Value.{Value}
+use Rattle.plan.specs.Layout.{mostProperties}
 use Rattle.tree.specs.Tree.{Tree}
-use Rattle.syntax.specs.Judge.{fine, judgedOf}
+use Rattle.syntax.specs.Judge.{judgedOf}
 use Rattle.checker.specs.Name.{nameAt}
 use Rattle.checker.specs.Property.{Property, undeclared, declared, propertyKinds}
-use Rattle.checker.specs.Kinds as checker
 use Rattle.checker.specs.declared.name.Scope.{Scope}
 use Rattle.checker.specs.declared.name.Scope.the-variants as scope
-use Rattle.checker.specs.declared.check.Verdict.{Verdict}
-use Rattle.checker.specs.declared.check.Verdict.the-variants as verdict
 use Rattle.checker.specs.declared.check.Wanted.{Wanted}
 use Rattle.evaluator.specs.Literal.{literalAt}
-use Rattle.evaluator.specs.Demand.{Worst, Variables, plain, isRefused}
+use Rattle.evaluator.specs.Demand.{Worst, Variables, plain}
 use Rattle.evaluator.proofs.Complete as evaluator
 use Rattle.evaluator.proofs.Literals.{literal-kind}
 use Rattle.evaluator.proofs.Law.Variables.{each-variable, every-variable}
-use Rattle.style.specs.Style.{Declared, Define, Style, propertyIn, isAmong, defineName, definedIn, kindsIn}
-use Rattle.style.specs.Expression.{Judgement, byKinds, expressionOf}
-use Rattle.style.specs.Expression as judged
+use Rattle.style.specs.Style.{Declared, Define, Style, empty, propertyIn, isAmong, defineName, definedIn, kindsIn}
+use Rattle.style.specs.Item.{Item}
+use Rattle.style.specs.Items.{isDeclared, Stand, Reached, RefusedAs}
+use Rattle.style.specs.Accepted.{AllDeclared, Whole}
+use Rattle.style.proofs.Items.{at-whole}
 use Rattle.feature.specs.Feature.{enteredOf, AllOf}
 use Rattle.feature.specs.Sample.{absent, null, sample, Given, given, textOf, chosenAt, lineFor, chosenFrom}
 use Rattle.feature.specs.Sample as sampled
@@ -37,27 +38,26 @@ use Rattle.feature.proofs.Samples.{sample-kind, sample-read, sample-line}
 use Rattle.feature.proofs.Conforming.{entered-conform}
 use Rattle.painter.specs.Meaning.{propertyValue}
 use Rattle.painter.specs.Paint.{declaredKinds, schemaOf}
-use Rattle.painter.specs.Demand.{ReadsAs, RefusedAs, Passes, NoDefine, SomeLineFails}
+use Rattle.painter.specs.Demand.{ReadsAs, NoDefine, SomeLineFails}
 use Rattle.painter.proofs.Sound.{values-conform}
-use Rattle.painter.proofs.Origins.{IsDeclared, AllDeclared, Whole, given-whole, reached-schema}
-use Rattle.painter.proofs.Order.{conforms-reads}
+use Rattle.painter.proofs.Judged.{seven-exactly}
 
 -- ---- the worst feature
 
-abbrev worstGiven : (p : Property) → IsDeclared p → Given
-worstGiven undeclared h = absurd h
+abbrev worstGiven : (p : Property) → isDeclared p ≡ true → Given
+worstGiven undeclared h = absurd (false≢true h)
 worstGiven (declared t true n) h = given (declared t true n) absent tt
 worstGiven (declared t false true) h = given (declared t false true) null tt
 worstGiven (declared t false false) h = given (declared t false false) sample tt
 
-given-kinds : (p : Property) (h : IsDeclared p) → sampled.kindsOf (worstGiven p h) ≡ propertyKinds p
-given-kinds undeclared h = absurd h
+given-kinds : (p : Property) (h : isDeclared p ≡ true) → sampled.kindsOf (worstGiven p h) ≡ propertyKinds p
+given-kinds undeclared h = absurd (false≢true h)
 given-kinds (declared t true n) h = refl
 given-kinds (declared t false true) h = refl
 given-kinds (declared t false false) h = refl
 
-given-worst : (at : ℕ) (p : Property) (h : IsDeclared p) → Worst p (chosenAt at (worstGiven p h))
-given-worst at undeclared h = absurd h
+given-worst : (at : ℕ) (p : Property) (h : isDeclared p ≡ true) → Worst p (chosenAt at (worstGiven p h))
+given-worst at undeclared h = absurd (false≢true h)
 given-worst at (declared t true n) h = refl
 given-worst at (declared t false true) h = refl
 given-worst at (declared t false false) h = sample-kind at t
@@ -88,10 +88,10 @@ worst-values at (d ∷ ds) a x = go (same x (d .name)) (worst-values next ds (a 
     go true h = given-worst at (d .property) (a .0)
     go false h = h
 
-worst-read : (s : Style) (a : AllDeclared (s .properties)) → length (s .properties) ≤ 32 → ReadsAs s 1 (lineFor (worstOf (s .properties) a)) (chosenFrom 5 (worstOf (s .properties) a))
+worst-read : (s : Style) (a : AllDeclared (s .properties)) → length (s .properties) ≤ mostProperties → ReadsAs s 1 (lineFor (worstOf (s .properties) a)) (chosenFrom 5 (worstOf (s .properties) a))
 worst-read s a few =
     let gs = worstOf (s .properties) a in
-    let short : length gs ≤ 32 = omega (arith, worst-length (s .properties) a) in
+    let short : length gs ≤ mostProperties = omega (arith, worst-length (s .properties) a) in
     ap (λ (ks : List Kinds). enteredOf ks 1 (lineFor gs)) (sym (worst-kinds (s .properties) a)) ∙ sample-read gs short 1 (omega arith)
 
 -- ---- a feature that conforms
@@ -117,37 +117,19 @@ stand-for scope.Define s text e h = every-variable (λ p n. refl) e
 stand-for scope.Style s text e h =
     each-variable (λ p n h. defined-none (s .defines) (nameAt text p) (propertyKinds (propertyIn (s .properties) (nameAt text p))) h) e h
 
--- ---- a refusal by 7
+-- ---- an expression that is reached, with a tree
 
-abbrev isRefusal : Judgement → Bool
-isRefusal (judged.refused n p) = true
-isRefusal (judged.accepted e) = false
-
-by-kinds : (v : Verdict) (text : List ℕ) (e : Tree) → ((p : ℕ) × (byKinds v text e ≡ judged.refused 7 p)) ↔ T (isRefused v)
-by-kinds (verdict.Refused p) text e = ((λ r. tt), (λ r. (p, refl)))
-by-kinds (verdict.Accepted s) text e = ((λ r. absurd (true≢false (sym (ap isRefusal (r .1))))), (λ r. absurd r))
-
-by-syntax : (look : List ℕ → Kinds) (want : Wanted) (text : List ℕ) (tree : Tree) → judgedOf text ≡ fine tree →
-    ((p : ℕ) × (expressionOf look want text ≡ judged.refused 7 p)) ↔ T (isRefused (checker.resultOf want (length text) (checker.kindsOf (λ p n. look (nameAt text p)) tree)))
-unfolding expressionOf
-by-syntax look want text tree h = rw h (by-kinds (checker.resultOf want (length text) (checker.kindsOf (λ p n. look (nameAt text p)) tree)) text tree)
-
--- ---- an expression that passes the checks before its 7
-
-module _ (slots : ℕ) (head : List ℕ) (n : ℕ) (s : Style) (c : Scope) (want : Wanted) (text : List ℕ) (x : Passes slots head n s c want text) (is-plain : T (plain (x .tree)))
-    (none : NoDefine c s text (x .tree)) where
+module _ (items : List Item) (stand : Stand empty items) (n : ℕ) (s : Style) (c : Scope) (want : Wanted) (text : List ℕ) (reached : Reached items n s c want text) (tree : Tree)
+    (judged : judgedOf text ≡ fine tree) (is-plain : T (plain tree)) (none : NoDefine c s text tree) where
   whole : Whole s
-  whole = given-whole (x .reached .stands .before) s (x .reached .stands .given)
+  whole = at-whole items stand n s (reached .item) (reached .stands)
 
   -- each name stands for its property
-  looked : Variables (λ p n. kindsIn c s (nameAt text p) ≡ propertyKinds (propertyIn (s .properties) (nameAt text p))) (x .tree)
-  looked = stand-for c s text (x .tree) none
+  looked : Variables (λ p n. kindsIn c s (nameAt text p) ≡ propertyKinds (propertyIn (s .properties) (nameAt text p))) tree
+  looked = stand-for c s text tree none
 
   abbrev look : ℕ → ℕ → Kinds
   look p n = kindsIn c s (nameAt text p)
-
-  refused-by : ((p : ℕ) × (expressionOf (kindsIn c s) want text ≡ judged.refused 7 p)) ↔ T (isRefused (checker.resultOf want (length text) (checker.kindsOf look (x .tree))))
-  refused-by = by-syntax (kindsIn c s) want text (x .tree) (x .is)
 
   -- the worst feature
   abbrev line : List ℕ
@@ -156,25 +138,22 @@ module _ (slots : ℕ) (head : List ℕ) (n : ℕ) (s : Style) (c : Scope) (want
   abbrev values : List Value
   values = chosenFrom 5 (worstOf (s .properties) (whole .declared))
 
-  reads : ReadsAs s 1 line values
-  reads = worst-read s (whole .declared) (whole .few)
-
-  -- It is refused with 7, and its head with it, exactly if some feature that conforms makes it fail by itself.
-  pub refused-exactly : ((p : ℕ) × RefusedAs head 7 n p s c want text) ↔ SomeLineFails head s want text (x .tree)
-  refused-exactly = (
-    (λ r. record {
-      number = 1;
-      feature = line;
-      is-line = sample-line (worstOf (s .properties) (whole .declared));
-      conforms = conforms-reads head (x .size) s (reached-schema head n s c want text (x .reached)) 1 line .1 (values, reads);
-      values = values;
-      reads = reads;
-      failing =
-          evaluator.worst-fails (λ p n. nameAt text p) (propertyIn (s .properties)) (textIn text line) (literalAt text) (literal-kind text) look (x .tree) is-plain looked want (length text)
-          (propertyValue (s .properties) values) (every-variable (λ p n. worst-values 5 (s .properties) (whole .declared) (nameAt text p)) (x .tree)) (refused-by .0 (r .0, r .1 .refused));
-    }),
-    (λ w. let r = refused-by .1
-        (evaluator.exactly (λ p n. nameAt text p) (propertyIn (s .properties)) (textIn text (w .feature)) (literalAt text) (literal-kind text) look (x .tree) is-plain looked want (length text) .1
-        (propertyValue (s .properties) (w .values), values-conform (s .properties) (w .values) (reads-conform s (w .number) (w .feature) (w .values) (w .reads)), w .failing)) in
-        (r .0, record { reached = x .reached; refused = r .1 })),
-  )
+  -- It is refused with 7, and its item with it, exactly if some feature that reads as values makes it fail by itself.
+  pub refused-exactly : ((p : ℕ) × RefusedAs items n (refusalAt 7 p) s c want text) ↔ SomeLineFails s want text tree
+  refused-exactly =
+      let by-tree = seven-exactly (kindsIn c s) want text tree judged in (
+        (λ r. record {
+          number = 1;
+          feature = line;
+          is-line = sample-line (worstOf (s .properties) (whole .declared));
+          values = values;
+          reads = worst-read s (whole .declared) (whole .few .properties);
+          failing =
+              evaluator.worst-fails (λ p n. nameAt text p) (propertyIn (s .properties)) (textIn text line) (literalAt text) (literal-kind text) look tree is-plain looked want (length text)
+              (propertyValue (s .properties) values) (every-variable (λ p n. worst-values 5 (s .properties) (whole .declared) (nameAt text p)) tree) (by-tree .0 (r .0, r .1 .refused));
+        }),
+        (λ w. let r = by-tree .1
+            (evaluator.exactly (λ p n. nameAt text p) (propertyIn (s .properties)) (textIn text (w .feature)) (literalAt text) (literal-kind text) look tree is-plain looked want (length text) .1
+            (propertyValue (s .properties) (w .values), values-conform (s .properties) (w .values) (reads-conform s (w .number) (w .feature) (w .values) (w .reads)), w .failing)) in
+            (r .0, record { reached = reached; refused = r .1 })),
+      )

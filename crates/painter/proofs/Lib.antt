@@ -2,7 +2,6 @@ pub mod Order
 pub mod NoColour
 pub mod Printed
 pub mod Sound
-pub mod Origins
 pub mod Judged
 pub mod Complete
 pub mod Demands

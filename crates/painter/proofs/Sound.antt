@@ -1,5 +1,5 @@
 -- What is worked out for a feature by an accepted style meets no fault and ends in a kind that its line takes.
-use mathlib.Core.Path.{_≡_, refl, sym, _∙_, subst}
+use mathlib.Core.Path.{_≡_, refl, sym, _∙_, ap, subst}
 use mathlib.Core.Bool.{Bool, true, false, cond}
 use mathlib.Core.List.{List, [], _∷_, _++_, map}
 use Prim.Native.Nat.{ℕ, suc, _+_}
@@ -13,7 +13,7 @@ use Rattle.kind.specs.declared.kind.Kind.the-variants as kind
 use Rattle.kind.specs.declared.set.Kinds.{Kinds}
 use Rattle.kind.proofs.Law.Choices.{has-set}
 use Rattle.kind.proofs.Law.Sets.{in-single}
-use Rattle.value.specs.Value.{kindOf}
+use Rattle.value.specs.Value.{kindOf, truth}
 use Rattle.value.specs.declared.apply.Outcome.{Outcome}
 use Rattle.value.specs.declared.apply.Outcome.the-variants.{Fault, Worked}
 use Rattle.value.specs.declared.value.Span.{Span}
@@ -22,6 +22,7 @@ use Rattle.value.specs.declared.value.Value.the-variants.{Undefined, Null, Bool
 use Rattle.checker.specs.Name.{nameAt}
 use Rattle.checker.specs.Property.{propertyKinds}
 use Rattle.checker.specs.Kinds.{takenBy}
+use Rattle.checker.specs.Check.{answerOf}
 use Rattle.checker.specs.declared.name.Scope.{Scope}
 use Rattle.checker.specs.declared.name.Scope.the-variants as scope
 use Rattle.checker.specs.declared.check.Wanted.{Wanted}
@@ -32,12 +33,13 @@ use Rattle.evaluator.proofs.Literals.{literal-kind}
 use Rattle.evaluator.proofs.Law.Variables.{every-variable}
 use Rattle.evaluator.proofs.Sound.{accepted-result}
 use Rattle.style.specs.Style.{Declared, Expression, Define, Condition, Style, propertyIn, definedIn, kindsIn}
-use Rattle.style.specs.Tables.{Each}
+use Rattle.style.specs.Holds.{Each}
 use Rattle.style.specs.Accepted.{Stands, AllStand}
 use Rattle.feature.specs.Feature.{AllOf}
-use Rattle.painter.specs.Meaning.{propertyValue, propertyOutcome, expressionAt, definedOutcome, definesText, stringsOf, outcomeOf, isTrue}
+use Rattle.painter.specs.Given.{Asked, asked, untilTrue}
+use Rattle.painter.specs.Meaning.{propertyValue, propertyOutcome, expressionAt, definedOutcome, definesText, stringsOf, outcomeOf, valueOf}
 use Rattle.painter.specs.Paint.{declaredKinds, schemaOf}
-use Rattle.painter.specs.Demand.{Work, NoneFails, working, untilTrue, workedOut, named}
+use Rattle.painter.specs.Demand.{NoneFails, workedOutOf, named}
 
 -- ---- names
 
@@ -58,9 +60,9 @@ pub any-fine : (k : Kinds) (o : Outcome) → Conforms k o → fails wanted.Any o
 any-fine k Fault h = absurd h
 any-fine k (Worked v) h = rw (has-set (λ k. true) (kindOf v))
 
-joined : (us ws : List Work) → NoneFails us → NoneFails ws → NoneFails (us ++ ws)
-joined [] ws f g = g
-joined (u ∷ us) ws f g = (f .0, joined us ws (f .1) g)
+joined : {E : Type 0} (outcome : E → Outcome) (xs ys : List (Asked E)) → NoneFails outcome xs → NoneFails outcome ys → NoneFails outcome (xs ++ ys)
+joined outcome [] ys f g = g
+joined outcome (x ∷ xs) ys f g = (f .0, joined outcome xs ys (f .1) g)
 
 -- ---- expressions that stand in a style
 
@@ -82,7 +84,7 @@ module _ (s : Style) where
   stands-sound c want e st strings base names h =
       accepted-result (record { text = strings; literals = λ p k. movedValue base (literalAt (e .text) p k); variables = λ p n. names (nameAt (e .text) p) })
       (λ p n. kindsIn c s (nameAt (e .text) p)) (λ p k. moved-kind base (literalAt (e .text) p k) ∙ literal-kind (e .text) p k) (e .tree)
-      (every-variable (λ p n. h (nameAt (e .text) p)) (e .tree)) want (length (e .text)) (e .kinds) (st .checked)
+      (every-variable (λ p n. h (nameAt (e .text) p)) (e .tree)) want (length (e .text)) (e .kinds) (ap answerOf (st .checked))
 
   module _ (vs : List Value) (conform : AllOf (schemaOf s) vs) where
     pub property-conforms : (x : List ℕ) → Conforms (kindsIn scope.Define s x) (propertyOutcome s vs x)
@@ -122,21 +124,27 @@ module _ (s : Style) where
 
       -- ---- all of it
 
-      all-fine : (want : Wanted) (i : ℕ) (es : List Expression) → Each (λ i (e : Expression). Stands scope.Style want s e) i es → NoneFails (map (working s feature vs want) es)
+      abbrev AllFine : List (Asked Expression) → Type 0
+      AllFine = NoneFails (outcomeOf s feature vs)
+
+      all-fine : (want : Wanted) (i : ℕ) (es : List Expression) → Each (λ i (e : Expression). Stands scope.Style want s e) i es → AllFine (map (asked want) es)
       all-fine want i [] st = tt
       all-fine want i (e ∷ es) st = (never-fails want e (st .0), all-fine want (suc i) es (st .1))
 
-      until-fine : (i : ℕ) (cs : List Condition) → Each (λ i (c : Condition). Stands scope.Style wanted.Boolean s (c .test) × Stands scope.Style wanted.Vec4 s (c .colour)) i cs →
-          NoneFails (untilTrue s feature vs cs)
+      abbrev until : List (Condition Expression) → List (Asked Expression)
+      until = untilTrue (valueOf s feature vs)
+
+      until-fine : (i : ℕ) (cs : List (Condition Expression)) →
+          Each (λ i (c : Condition Expression). Stands scope.Style wanted.Boolean s (c .test) × Stands scope.Style wanted.Vec4 s (c .colour)) i cs → AllFine (until cs)
       until-fine i [] st = tt
       until-fine i (c ∷ cs) st = (
         never-fails wanted.Boolean (c .test) (st .0 .0),
-        by-test NoneFails (isTrue s feature vs (c .test)) (λ _. (never-fails wanted.Vec4 (c .colour) (st .0 .1), tt)) (λ _. until-fine (suc i) cs (st .1)),
+        by-test AllFine (truth (valueOf s feature vs (c .test))) (λ _. (never-fails wanted.Vec4 (c .colour) (st .0 .1), tt)) (λ _. until-fine (suc i) cs (st .1)),
       )
 
-      pub none-fails : NoneFails (workedOut s feature vs)
+      pub none-fails : NoneFails (outcomeOf s feature vs) (workedOutOf s feature vs)
       none-fails =
-          joined (map (working s feature vs wanted.Boolean) (s .shows)) (untilTrue s feature vs (s .conditions) ++ map (working s feature vs wanted.Vec4) (s .colours))
+          joined (outcomeOf s feature vs) (map (asked wanted.Boolean) (s .shows)) (until (s .conditions) ++ map (asked wanted.Vec4) (s .colours))
           (all-fine wanted.Boolean 0 (s .shows) (all .shows))
-          (joined (untilTrue s feature vs (s .conditions)) (map (working s feature vs wanted.Vec4) (s .colours)) (until-fine 0 (s .conditions) (all .conditions))
+          (joined (outcomeOf s feature vs) (until (s .conditions)) (map (asked wanted.Vec4) (s .colours)) (until-fine 0 (s .conditions) (all .conditions))
           (all-fine wanted.Vec4 0 (s .colours) (all .colours)))

@@ -1,37 +1,50 @@
 -- What the painter answers, and what it leaves in lent memory: page 01, "Refusal numbers" and "Checked examples".
-use mathlib.Core.Bool.{Bool, cond, _||_}
+use mathlib.Core.Bool.{cond}
 use mathlib.Core.List.{List, map, _++_}
 use Prim.Native.Nat.{ℕ, min}
 use lib.Dec.{ltb}
-use lib.ListN.{length, drop, replicate}
+use lib.ListN.{length, drop}
+use Rattle.lexer.specs.Refusal.{Judged, refused, fine, refusalAt}
 use Rattle.kind.specs.declared.set.Kinds.{Kinds}
+use Rattle.value.specs.declared.value.Value.{Value}
 use Rattle.checker.specs.Property.{propertyKinds}
+use Rattle.style.specs.Answer.{Answer, refusal, accepted, onAccepted}
 use Rattle.style.specs.Style.{Declared, Style}
-use Rattle.style.specs.Head.{Headed, refusedAt, gives, headOf, roomSize}
-use Rattle.feature.specs.Feature.{Entered, refused, entered, complete, broken, enteredOf}
+use Rattle.style.specs.Head.{styleOf}
+use Rattle.style.specs.Head as style
+use Rattle.feature.specs.Feature.{Values, complete, broken, enteredOf}
 use Rattle.output.specs.Line.{front, paintedLine, refusedFeature}
-use Rattle.output.specs.declared.line.Colouring.{Colouring}
-use Rattle.painter.specs.Meaning.{showOf, colouringOf}
-use Rattle.painter.specs.declared.paint.Painted.{Painted}
-use Rattle.painter.specs.declared.paint.Painted.the-variants as painted
+use Rattle.painter.specs.Meaning.{givenOf}
+use Rattle.painter.specs.declared.answer.Given.{Given}
+use Rattle.painter.specs.declared.answer.Drawn.{Drawn}
+use Rattle.painter.specs.declared.answer.Drawn.the-variants as drawn
+use Rattle.painter.specs.declared.answer.Painted.{Painted}
+use Rattle.painter.specs.declared.answer.Painted.the-variants as painted
 
 -- ---- answers in page 01's terms
 
--- A refusal's number, line and place; or show, the colour or none, and how many bytes are written.
-pub data Answer : Type 0 where
-  refusal : ℕ → ℕ → ℕ → Answer
-  accepted : Bool → Colouring → ℕ → Answer
+-- what the style gives, and how many bytes are written
+pub record Written : Type 0 where
+  pub given : Given
+  pub bytes : ℕ
 
-abbrev pub answerOf : Painted → Answer
-answerOf (painted.Refused r) = refusal (r .number) (r .line) (r .place)
-answerOf (painted.Painted show colouring bytes) = accepted show colouring bytes
+-- page 01's number, line and place for each case: of what is worked out for a feature, and of what is painted
+abbrev pub drawnAnswer : Drawn → Answer Given
+drawnAnswer (drawn.Refused r) = refusal (r .line) (r .refusal)
+drawnAnswer (drawn.Given given) = accepted given
 
--- "0 | accepted"
-abbrev pub numberOf : Answer → ℕ
-numberOf (refusal number line place) = number
-numberOf (accepted show colouring bytes) = 0
+abbrev pub answerOf : Painted → Answer Written
+answerOf (painted.Refused r) = refusal (r .line) (r .refusal)
+answerOf (painted.Painted given bytes) = accepted (record { given = given; bytes = bytes })
 
 -- ---- a feature
+
+-- What is made of the values of a line that conforms. "then the strip: its size, the number of strips, 9", in which order they are entered;
+-- the line is "for a strip, the number its caller gives it".
+abbrev pub onValues : {A : Type 0} → ℕ → Judged Values → (List Value → A) → Answer A
+onValues number (refused r) make = refusal number r
+onValues number (fine (broken vs p)) make = refusal number (refusalAt 9 p)
+onValues number (fine (complete vs)) make = accepted (make vs)
 
 -- the kinds that each property may have, in their order
 abbrev pub declaredKinds : Declared → Kinds
@@ -40,56 +53,56 @@ declaredKinds d = propertyKinds (d .property)
 abbrev pub schemaOf : Style → List Kinds
 schemaOf s = map declaredKinds (s .properties)
 
--- "then the strip: its size, the number of strips, 9", in which order they are entered; the line is "for a strip, the number its caller gives it"
-abbrev pub featuredBy : Style → ℕ → List ℕ → Entered → Answer
-featuredBy s number text (refused n p) = refusal n number p
-featuredBy s number text (entered (broken vs p)) = refusal 9 number p
-featuredBy s number text (entered (complete vs)) =
-    let show = showOf s text vs in
-    let colouring = colouringOf s text vs in
-    accepted show colouring (length (paintedLine number show colouring))
+-- what the style gives it
+abbrev pub givenAnswer : Style → ℕ → List ℕ → Answer Given
+givenAnswer s number text = onValues number (enteredOf (schemaOf s) number text) (givenOf s text)
 
-abbrev pub featured : Style → ℕ → List ℕ → Answer
-featured s number text = featuredBy s number text (enteredOf (schemaOf s) number text)
+-- the line that is written for it
+abbrev pub givenLine : ℕ → Given → List ℕ
+givenLine number given = paintedLine number (given .show) (given .colouring)
+
+abbrev pub writtenFor : ℕ → Given → Written
+writtenFor number given = record { given = given; bytes = length (givenLine number given) }
+
+abbrev pub featured : Style → ℕ → List ℕ → Answer Written
+featured s number text = onAccepted (givenAnswer s number text) (λ given. accepted (writtenFor number given))
 
 -- ---- the call
 
--- the head's lines in turn, and then the feature
-abbrev pub headed : Headed → ℕ → List ℕ → Answer
-headed (refusedAt m n p) number text = refusal m n p
-headed (gives s) number text = featured s number text
+-- "an output buffer under 32 bytes"
+abbrev pub leastBytes : ℕ
+leastBytes = 32
 
--- "an output buffer under 32 bytes, or work room under the one size"
-abbrev pub isShort : ℕ → ℕ → Bool
-isShort bytes slots = ltb bytes 32 || ltb slots roomSize
+abbrev pub shortBuffer : {A : Type 0} → Answer A
+shortBuffer = refusal 0 (refusalAt 10 0)
 
--- "Order: 10; size of the head; then the head's lines in turn, each 8 first and then its expressions left to right, each by 1 to 7 in that order; then the strip": of the buffer and the room their lengths count.
-unfoldable pub paintedOf : ℕ → ℕ → List ℕ → ℕ → List ℕ → Answer
-unfolding headOf enteredOf
+-- "Order: 10; size of the head; then the head's lines in turn, each 8 first and then its expressions left to right, each by 1 to 7 in that
+-- order; then the strip": of the buffer and the room their lengths count, and the 10 of the room stands in `styleOf`.
+unfoldable pub paintedOf : ℕ → ℕ → List ℕ → ℕ → List ℕ → Answer Written
+unfolding styleOf enteredOf
 paintedOf bytes slots head number text =
-    cond (isShort bytes slots) (refusal 10 0 0)
-    (cond (ltb 32768 (length head)) (refusal 1 0 32768)
-    (headed (headOf head) number text))
+    cond (ltb bytes leastBytes) shortBuffer (onAccepted (styleOf slots head) (λ s. featured s number text))
 
 -- ---- lent memory
 
 -- "A refused call leaves each output buffer as it came; an accepted one writes its line at the front and touches no byte after it."
-abbrev pub outAfter : Answer → ℕ → List ℕ → List ℕ
-outAfter (refusal n l p) number out = out
-outAfter (accepted show colouring bytes) number out = paintedLine number show colouring ++ drop bytes out
+abbrev pub outAfter : Answer Written → ℕ → List ℕ → List ℕ
+outAfter (refusal line r) number out = out
+outAfter (accepted w) number out = givenLine number (w .given) ++ drop (w .bytes) out
 
 -- "Work room, if lent, is zero after each call, save under 10, when it is untouched."
 abbrev pub roomAfter : ℕ → List ℕ → List ℕ
-roomAfter bytes room = cond (isShort bytes (length room)) room (replicate (length room) 0)
+roomAfter bytes room = cond (ltb bytes leastBytes) room (style.roomAfter room)
 
 -- ---- what is printed
 
 -- the line of a feature: `1→true→#00FF0080`, or `3→refused→9→5`
-abbrev pub printedLine : Answer → ℕ → List ℕ
-printedLine (refusal n l p) number = refusedFeature number n p
-printedLine (accepted show colouring bytes) number = paintedLine number show colouring
+abbrev pub printedLine : Answer Written → ℕ → List ℕ
+printedLine (refusal line r) number = refusedFeature number (r .number) (r .place)
+printedLine (accepted w) number = givenLine number (w .given)
 
--- The buffer after a call, and how many of its first bytes are that line: a painted one's stand there already, and a refused one's are written, if they fit.
-abbrev pub printedBy : Answer → ℕ → List ℕ → List ℕ × ℕ
-printedBy (refusal n l p) number out = front out (refusedFeature number n p)
-printedBy (accepted show colouring bytes) number out = (out, min bytes (length out))
+-- The buffer after a call, and how many of its first bytes are that line: a painted one's stand there already, and a refused one's are
+-- written, if they fit.
+abbrev pub printedBy : Answer Written → ℕ → List ℕ → List ℕ × ℕ
+printedBy (refusal line r) number out = front out (refusedFeature number (r .number) (r .place))
+printedBy (accepted w) number out = (out, min (w .bytes) (length out))

@@ -1,51 +1,55 @@
 // What the expressions of a style come to for the values of a feature.
 ghost use mathlib.Core.Path.{_≡_};
-ghost use Rattle.painter.specs.Arrays.{source, rowValue, definedFrom, few, shownAt, colourAt, conditionedFrom, colouredAt};
+ghost use Prim.Native.Nat.{min};
+ghost use Rattle.painter.specs.Given.{shownBy, colourBy, conditionedBy, colouredBy};
+ghost use Rattle.painter.specs.Applied.{source, rowValue, allDefined, showRows, colourRows, conditionRows, givenAt};
+use crate::answer::Given;
 use colour::colour::Colour;
+use colour::colour::Colouring;
 use evaluator::evaluate::evaluate;
 use evaluator::operation::value_in;
 use evaluator::values::store;
-use output::line::Colouring;
-use syntax::judge::MOST_HEIGHT;
+use plan::layout::COLOUR;
+use plan::layout::COLOURS;
+use plan::layout::CONDITIONS;
+use plan::layout::DEFINES;
+use plan::layout::EXPRESSIONS;
+use plan::layout::FIRST_CONDITION;
+use plan::layout::FIRST_DEFINE;
+use plan::layout::Floats;
+use plan::layout::MOST_CONDITIONS;
+use plan::layout::MOST_DEFINES;
+use plan::layout::Plan;
+use plan::layout::ROW;
+use plan::layout::ROWS;
+use plan::layout::SHOW;
+use plan::layout::SHOWS;
+use plan::layout::Spans;
+use plan::numbers::number_at;
 use value::value::Value;
 use value::value::colour_of;
 use value::value::is_true;
-
-const ROWS: usize = 50;
-
-// The rows of expressions: defines from 0 on, then `show` and `color`, and then each condition with its
-// colour behind it.
-const SHOW: usize = 16;
-
-const COLOUR: usize = 17;
-
-const CONDITIONS: usize = 18;
-
-// The rows of defines' values stand behind those of the properties.
-const DEFINES: usize = 32;
-
-// There are as many rows of defines, and of conditions.
-const MOST: usize = 16;
 
 // The expression of a row. What lies outside head or room is Undefined.
 fn row_value(
     head: &[u8],
     feature: &[u8],
     room: &[u16],
-    froms: &[usize; 50],
-    tos: &[usize; 50],
-    roots: &[usize; 50],
-    rows: &[usize; 144],
-    floats: &[f64; 192],
+    plan: &Plan,
+    spans: &Spans,
+    floats: &Floats,
     row: usize,
 ) -> Value
-    ensures { λ r. ⌜ r ≡ rowValue (source (now (head .entry)) (now (feature .entry)) (now (room .entry)) (now (froms .entry)) (now (tos .entry)) (now (roots .entry))) (now (rows .entry)) (now (floats .entry)) row ⌝ }
+    ensures { λ r. ⌜ r ≡ rowValue
+        (source (now (head .entry)) (now (feature .entry)) (now (room .entry)) (now (plan .entry)))
+        (now (spans .entry), now (floats .entry)) row ⌝ }
 {
-    if ROWS <= row {
+    if EXPRESSIONS <= row {
         return Value::Undefined;
     }
-    let from = froms[row];
-    let to = tos[row];
+    let place = ROWS + ROW * row;
+    let from = number_at(plan, place);
+    let to = number_at(plan, place + 1);
     if to < from {
         return Value::Undefined;
     }
@@ -57,57 +61,55 @@ fn row_value(
     }
     let style = &head[..to];
     let slots = &room[from..to];
-    let root = roots[row];
-    value_in(evaluate(style, feature, slots, rows, floats, from, root, MOST_HEIGHT))
+    let root = number_at(plan, place + 2);
+    value_in(evaluate(style, feature, slots, spans, floats, from, root))
 }
 
-fn at_most(count: usize) -> usize
-    ensures { λ r. ⌜ r ≡ few count ⌝ }
+pub(crate) fn at_most(count: usize, most: usize) -> usize
+    ensures { λ r. ⌜ r ≡ min count most ⌝ }
 {
-    if MOST < count { MOST } else { count }
+    if count < most { count } else { most }
 }
 
 // The defines in turn; the value of each is stored for whoever names it.
-pub(crate) fn store_defines(
+fn store_defines(
     head: &[u8],
     feature: &[u8],
     room: &[u16],
-    froms: &[usize; 50],
-    tos: &[usize; 50],
-    roots: &[usize; 50],
-    defines: usize,
-    rows: &mut [usize; 144],
-    floats: &mut [f64; 192],
+    plan: &Plan,
+    spans: &mut Spans,
+    floats: &mut Floats,
 )
-    ensures { λ _. ⌜ (now (rows .exit), now (floats .exit)) ≡ definedFrom (source (now (head .entry)) (now (feature .entry)) (now (room .entry)) (now (froms .entry)) (now (tos .entry)) (now (roots .entry))) (few defines) 0 (now (rows .entry), now (floats .entry)) ⌝ }
+    ensures { λ _. ⌜ (now (spans .exit), now (floats .exit)) ≡ allDefined
+        (source (now (head .entry)) (now (feature .entry)) (now (room .entry)) (now (plan .entry)))
+        (now (spans .entry), now (floats .entry)) ⌝ }
 {
-    let count = at_most(defines);
+    let count = at_most(number_at(plan, DEFINES), MOST_DEFINES);
     let mut i = 0;
     while i < count {
-        let value = row_value(head, feature, room, froms, tos, roots, rows, floats, i);
-        store(rows, floats, DEFINES + i, value);
+        let value = row_value(head, feature, room, plan, spans, floats, i);
+        store(spans, floats, FIRST_DEFINE + i, value);
         i += 1;
     }
 }
 
 // Without `show` a feature shows.
-pub(crate) fn show(
+fn show(
     head: &[u8],
     feature: &[u8],
     room: &[u16],
-    froms: &[usize; 50],
-    tos: &[usize; 50],
-    roots: &[usize; 50],
-    shows: usize,
-    rows: &[usize; 144],
-    floats: &[f64; 192],
+    plan: &Plan,
+    spans: &Spans,
+    floats: &Floats,
 ) -> bool
-    ensures { λ r. ⌜ r ≡ shownAt (source (now (head .entry)) (now (feature .entry)) (now (room .entry)) (now (froms .entry)) (now (tos .entry)) (now (roots .entry))) (now (rows .entry)) (now (floats .entry)) shows ⌝ }
+    ensures { λ r. ⌜ r ≡ shownBy
+        (rowValue (source (now (head .entry)) (now (feature .entry)) (now (room .entry)) (now (plan .entry)))
+        (now (spans .entry), now (floats .entry))) (showRows (now (plan .entry))) ⌝ }
 {
-    if shows == 0 {
+    if number_at(plan, SHOWS) == 0 {
         return true;
     }
-    is_true(row_value(head, feature, room, froms, tos, roots, rows, floats, SHOW))
+    is_true(row_value(head, feature, room, plan, spans, floats, SHOW))
 }
 
 // The colour of a row.
@@ -115,16 +117,16 @@ fn colour(
     head: &[u8],
     feature: &[u8],
     room: &[u16],
-    froms: &[usize; 50],
-    tos: &[usize; 50],
-    roots: &[usize; 50],
-    rows: &[usize; 144],
-    floats: &[f64; 192],
+    plan: &Plan,
+    spans: &Spans,
+    floats: &Floats,
     row: usize,
 ) -> Colouring
-    ensures { λ r. ⌜ r ≡ colourAt (source (now (head .entry)) (now (feature .entry)) (now (room .entry)) (now (froms .entry)) (now (tos .entry)) (now (roots .entry))) (now (rows .entry)) (now (floats .entry)) row ⌝ }
+    ensures { λ r. ⌜ r ≡ colourBy
+        (rowValue (source (now (head .entry)) (now (feature .entry)) (now (room .entry)) (now (plan .entry)))
+        (now (spans .entry), now (floats .entry))) row ⌝ }
 {
-    let value = row_value(head, feature, room, froms, tos, roots, rows, floats, row);
+    let value = row_value(head, feature, room, plan, spans, floats, row);
     Colouring::Of(colour_of(value).clamped())
 }
 
@@ -133,22 +135,21 @@ fn condition(
     head: &[u8],
     feature: &[u8],
     room: &[u16],
-    froms: &[usize; 50],
-    tos: &[usize; 50],
-    roots: &[usize; 50],
-    conditions: usize,
-    rows: &[usize; 144],
-    floats: &[f64; 192],
+    plan: &Plan,
+    spans: &Spans,
+    floats: &Floats,
 ) -> Colouring
-    ensures { λ r. ⌜ r ≡ conditionedFrom (source (now (head .entry)) (now (feature .entry)) (now (room .entry)) (now (froms .entry)) (now (tos .entry)) (now (roots .entry))) (now (rows .entry)) (now (floats .entry)) (few conditions) 0 ⌝ }
+    ensures { λ r. ⌜ r ≡ conditionedBy
+        (rowValue (source (now (head .entry)) (now (feature .entry)) (now (room .entry)) (now (plan .entry)))
+        (now (spans .entry), now (floats .entry))) (conditionRows (now (plan .entry))) ⌝ }
 {
-    let count = at_most(conditions);
+    let count = at_most(number_at(plan, CONDITIONS), MOST_CONDITIONS);
     let mut k = 0;
     while k < count {
-        let row = CONDITIONS + 2 * k;
-        if is_true(row_value(head, feature, room, froms, tos, roots, rows, floats, row)) {
+        let row = FIRST_CONDITION + 2 * k;
+        if is_true(row_value(head, feature, room, plan, spans, floats, row)) {
             let next = row + 1;
-            return colour(head, feature, room, froms, tos, roots, rows, floats, next);
+            return colour(head, feature, room, plan, spans, floats, next);
         }
         k += 1;
     }
@@ -156,35 +157,45 @@ fn condition(
 }
 
 // Without `color` and conditions a feature is white.
-pub(crate) fn colouring(
+fn colouring(
     head: &[u8],
     feature: &[u8],
     room: &[u16],
-    froms: &[usize; 50],
-    tos: &[usize; 50],
-    roots: &[usize; 50],
-    colours: usize,
-    conditions: usize,
-    rows: &[usize; 144],
-    floats: &[f64; 192],
+    plan: &Plan,
+    spans: &Spans,
+    floats: &Floats,
 ) -> Colouring
-    ensures { λ r. ⌜ r ≡ colouredAt (source (now (head .entry)) (now (feature .entry)) (now (room .entry)) (now (froms .entry)) (now (tos .entry)) (now (roots .entry))) (now (rows .entry)) (now (floats .entry)) colours conditions ⌝ }
+    ensures { λ r. ⌜ r ≡ colouredBy
+        (rowValue (source (now (head .entry)) (now (feature .entry)) (now (room .entry)) (now (plan .entry)))
+        (now (spans .entry), now (floats .entry))) (colourRows (now (plan .entry))) (conditionRows (now (plan .entry))) ⌝ }
 {
-    if 0 < colours {
-        return colour(head, feature, room, froms, tos, roots, rows, floats, COLOUR);
+    if 0 < number_at(plan, COLOURS) {
+        return colour(head, feature, room, plan, spans, floats, COLOUR);
     }
-    if 0 < conditions {
-        return condition(
-            head,
-            feature,
-            room,
-            froms,
-            tos,
-            roots,
-            conditions,
-            rows,
-            floats,
-        );
+    if 0 < number_at(plan, CONDITIONS) {
+        return condition(head, feature, room, plan, spans, floats);
     }
     Colouring::Of(Colour::WHITE)
+}
+
+// From the values of the properties: those of the defines come first.
+pub(crate) fn draw(
+    head: &[u8],
+    feature: &[u8],
+    room: &[u16],
+    plan: &Plan,
+    spans: &mut Spans,
+    floats: &mut Floats,
+) -> Given
+    ensures given { λ r. ⌜ r ≡ givenAt
+        (source (now (head .entry)) (now (feature .entry)) (now (room .entry)) (now (plan .entry)))
+        (now (spans .exit), now (floats .exit)) ⌝ }
+    ensures defined { λ _. ⌜ (now (spans .exit), now (floats .exit)) ≡ allDefined
+        (source (now (head .entry)) (now (feature .entry)) (now (room .entry)) (now (plan .entry)))
+        (now (spans .entry), now (floats .entry)) ⌝ }
+{
+    store_defines(head, feature, room, plan, spans, floats);
+    let show = show(head, feature, room, plan, spans, floats);
+    let colouring = colouring(head, feature, room, plan, spans, floats);
+    Given { show, colouring }
 }

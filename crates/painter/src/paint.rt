@@ -1,36 +1,31 @@
 // The painter's call.
 ghost use mathlib.Core.Path.{_≡_};
 ghost use lib.ListN.{length};
-ghost use Rattle.painter.specs.Paint.{refusal, answerOf, paintedOf, outAfter, roomAfter};
+ghost use Rattle.painter.specs.Paint.{shortBuffer, answerOf, paintedOf, outAfter, roomAfter};
+use crate::answer::Painted;
 use crate::apply::apply;
-use output::line::Colouring;
+use lexer::refusal::Refusal;
+use plan::layout::FLOATS;
+use plan::layout::PLAN;
+use plan::layout::SPANS;
 use style::check::Checked;
-use style::check::Refusal;
+use style::check::LineRefusal;
 use style::head::compile;
-use syntax::judge::clear;
-
-// Page 01's number, line and place; or whether the feature shows, its colour, and the count of bytes
-// that are written.
-pub enum Painted {
-    Refused(Refusal),
-    Painted {
-        show: bool,
-        colouring: Colouring,
-        bytes: usize,
-    },
-}
+use tree::write::clear;
 
 // The least that a buffer has to hold.
 pub(crate) const LEAST_BYTES: usize = 32;
 
 // The answer for a buffer that holds less.
 pub(crate) fn too_small() -> Painted
-    ensures { λ r. ⌜ answerOf r ≡ refusal 10 0 0 ⌝ }
+    ensures { λ r. ⌜ answerOf r ≡ shortBuffer ⌝ }
 {
-    Painted::Refused(Refusal {
-        number: 10,
+    Painted::Refused(LineRefusal {
         line: 0,
-        place: 0,
+        refusal: Refusal {
+            number: 10,
+            place: 0,
+        },
     })
 }
 
@@ -43,19 +38,30 @@ pub fn paint(
     out: &mut [u8],
     room: &mut [u16],
 ) -> Painted
-    ensures answer { λ r. ⌜ answerOf r ≡ paintedOf (length (now (out .entry))) (length (now (room .entry))) (now (head .entry)) number (now (feature .entry)) ⌝ }
+    ensures answer { λ r. ⌜ answerOf r ≡ paintedOf (length (now (out .entry))) (length (now (room .entry)))
+        (now (head .entry)) number (now (feature .entry)) ⌝ }
     ensures written { λ r. ⌜ now (out .exit) ≡ outAfter (answerOf r) number (now (out .entry)) ⌝ }
     ensures zero { λ _. ⌜ now (room .exit) ≡ roomAfter (length (now (out .entry))) (now (room .entry)) ⌝ }
 {
     if out.len() < LEAST_BYTES {
         return too_small();
     }
-    let compiled = compile(head, room);
-    let answer = compiled.answer;
-    match answer {
+    let mut plan = [0u16; PLAN];
+    match compile(head, &mut plan, room) {
         Checked::Refused(refusal) => Painted::Refused(refusal),
         Checked::Accepted => {
-            let painted = apply(head, compiled.tables, room, feature, number, out);
+            let mut spans = [0usize; SPANS];
+            let mut floats = [0.0f64; FLOATS];
+            let painted = apply(
+                head,
+                &plan,
+                room,
+                feature,
+                number,
+                out,
+                &mut spans,
+                &mut floats,
+            );
             clear(room);
             painted
         }

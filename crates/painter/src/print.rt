@@ -1,16 +1,11 @@
 // What is printed for a feature's answer.
 ghost use mathlib.Core.Path.{_≡_};
-ghost use Prim.Native.Nat.{_≤_, min};
+ghost use Prim.Native.Nat.{_≤_};
 ghost use lib.ListN.{length};
 ghost use Rattle.painter.specs.Paint.{answerOf, printedBy};
-use crate::paint::Painted;
+use crate::answer::Painted;
+use crate::draw::at_most;
 use output::line::refused_feature;
-
-fn least(a: usize, b: usize) -> usize
-    ensures { λ r. ⌜ r ≡ min a b ⌝ }
-{
-    if a < b { a } else { b }
-}
 
 // How many bytes at the front of the buffer are the feature's line. That of a painted one stands there
 // already; that of a refused one is written, if it fits.
@@ -19,11 +14,7 @@ pub fn line(answer: Painted, number: usize, out: &mut [u8]) -> usize
     ensures inside { λ r. ⌜ r ≤ length (now (out .entry)) ⌝ }
 {
     match answer {
-        Painted::Painted {
-            show: _,
-            colouring: _,
-            bytes,
-        } => least(bytes, out.len()),
-        Painted::Refused(r) => refused_feature(out, number, r.number, r.place),
+        Painted::Painted { given: _, bytes } => at_most(bytes, out.len()),
+        Painted::Refused(r) => refused_feature(out, number, r.refusal.number, r.refusal.place),
     }
 }

@@ -1,7 +1,12 @@
 pub mod Ladder
+pub mod Each
+pub mod Answers
+pub mod Turns
+pub mod Items
 pub mod Expressions
-pub mod Lines
-pub mod Names
-pub mod Rows
 pub mod Entries
+pub mod Names
+pub mod Plans
+pub mod Rooms
 pub mod Loop
+pub mod Calls

@@ -1,63 +1,56 @@
--- A head: page 01, "Refusal numbers" ("Order: 10; size of the head; then the head's lines in turn"; "A refusal is number, line from 1"; "For 10, where no line is read, line is 0.") and "Sizes".
+-- A head: page 01, "Refusal numbers" ("Order: 10; size of the head; then the head's lines in turn"; "For 10, where no line is read, line
+-- is 0.") and "Sizes".
 use mathlib.Core.Bool.{cond}
 use mathlib.Core.List.{List, [], _∷_}
 use Prim.Native.Nat.{ℕ, suc}
 use lib.Dec.{ltb}
 use lib.ListN.{length, replicate}
+use Rattle.lexer.specs.Refusal.{refusalAt}
 use Rattle.text.specs.Parts.{lines}
-use Rattle.style.specs.Style.{Style, Entry, empty, with}
-use Rattle.style.specs.Line.{Said, refused, adds, lineSaid}
+use Rattle.style.specs.Answer.{Answer, refusal, accepted, onLine, onAccepted}
+use Rattle.style.specs.Style.{Style, empty, with}
+use Rattle.style.specs.Item.{lineSaid}
 use Rattle.style.specs.declared.check.Checked.{Checked}
 use Rattle.style.specs.declared.check.Checked.the-variants.{Accepted, Refused}
 
--- a style, or the first refusal: its number, its line and its place
-pub data Headed : Type 0 where
-  refusedAt : ℕ → ℕ → ℕ → Headed
-  gives : Style → Headed
-
--- a line, and those after it
-abbrev pub onLine : ℕ → Said → (Entry → Headed) → Headed
-onLine n (refused m p) k = refusedAt m n p
-onLine n (adds e) k = k e
-
-abbrev pub headFrom : ℕ → Style → List (List ℕ) → Headed
-headFrom n s [] = gives s
+-- lines in turn, from a number on, behind those that have given a style
+abbrev pub headFrom : ℕ → Style → List (List ℕ) → Answer Style
+headFrom n s [] = accepted s
 headFrom n s (l ∷ ls) = onLine n (lineSaid s l) (λ e. headFrom (suc n) (with s e) ls)
 
-unfoldable pub headOf : List ℕ → Headed
+unfoldable pub headOf : List ℕ → Answer Style
 unfolding lineSaid
 headOf head = headFrom 1 empty (lines head)
 
--- ---- answers in page 01's terms
-
--- A refusal's number, line and place; or that the head is accepted.
-pub data Answer : Type 0 where
-  refusal : ℕ → ℕ → ℕ → Answer
-  accepted : Answer
-
-abbrev pub answerOf : Checked → Answer
-answerOf (Refused r) = refusal (r .number) (r .line) (r .place)
-answerOf Accepted = accepted
-
--- "0 | accepted"
-abbrev pub numberOf : Answer → ℕ
-numberOf (refusal number line place) = number
-numberOf accepted = 0
-
 -- ---- what the call answers, and what it leaves in the room
 
-abbrev pub answered : Headed → Answer
-answered (refusedAt m n p) = refusal m n p
-answered (gives s) = accepted
+-- page 01's number, line and place for each case
+abbrev pub answerOf : Checked → Answer (Unit {0})
+answerOf (Refused r) = refusal (r .line) (r .refusal)
+answerOf Accepted = accepted tt
+
+-- "Head 32,768 bytes"
+abbrev pub headSize : ℕ
+headSize = 32768
 
 -- the one size of the room, in slots of two bytes: one for each byte of the longest head
 abbrev pub roomSize : ℕ
-roomSize = 32768
+roomSize = headSize
 
--- "Head 32,768 bytes"
-unfoldable pub checkedOf : ℕ → List ℕ → Answer
+-- before any line is read
+abbrev pub shortRoom : {A : Type 0} → Answer A
+shortRoom = refusal 0 (refusalAt 10 0)
+
+abbrev pub longHead : {A : Type 0} → Answer A
+longHead = refusal 0 (refusalAt 1 headSize)
+
+-- a style, behind 10 and the head's size
+unfoldable pub styleOf : ℕ → List ℕ → Answer Style
 unfolding headOf
-checkedOf slots head = cond (ltb slots roomSize) (refusal 10 0 0) (cond (ltb 32768 (length head)) (refusal 1 0 32768) (answered (headOf head)))
+styleOf slots head = cond (ltb slots roomSize) shortRoom (cond (ltb headSize (length head)) longHead (headOf head))
+
+abbrev pub checkedOf : ℕ → List ℕ → Answer (Unit {0})
+checkedOf slots head = onAccepted (styleOf slots head) (λ s. accepted tt)
 
 -- "Work room, if lent, is zero after each call, save under 10, when it is untouched."
 abbrev pub roomAfter : List ℕ → List ℕ

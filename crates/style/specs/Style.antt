@@ -1,11 +1,13 @@
 -- What a head gives: page 01, "What the painter reads", "Sizes" and "Kinds and meaning".
 use mathlib.Core.Bool.{Bool, true, false, cond, _&&_}
-use mathlib.Core.List.{List, [], _∷_, _++_}
-use Prim.Native.Nat.{ℕ}
+use mathlib.Core.List.{List, [], _∷_, _++_, map}
+use Prim.Native.Nat.{ℕ, suc}
 use lib.Dec.{eqb, ltb}
 use lib.ListN.{length}
 use Rattle.lexer.specs.Bytes.{same}
 use Rattle.kind.specs.declared.set.Kinds.{Kinds}
+use Rattle.plan.specs.Layout.{mostProperties, mostDefines, mostConditions, firstDefine}
+use Rattle.plan.specs.Layout as layout
 use Rattle.tree.specs.Tree.{Tree}
 use Rattle.checker.specs.Property.{Property, undeclared, propertyKinds}
 use Rattle.checker.specs.declared.name.Scope.{Scope}
@@ -28,9 +30,10 @@ pub record Define : Type 0 where
   pub name : List ℕ
   pub expression : Expression
 
-pub record Condition : Type 0 where
-  pub test : Expression
-  pub colour : Expression
+-- a condition and its colour; the expressions are those of a style, or what stands for them
+pub record Condition (E : Type 0) : Type 0 where
+  pub test : E
+  pub colour : E
 
 -- The schema and the style; of `show` and `color` there is at most one.
 pub record Style : Type 0 where
@@ -38,7 +41,7 @@ pub record Style : Type 0 where
   pub defines : List Define
   pub shows : List Expression
   pub colours : List Expression
-  pub conditions : List Condition
+  pub conditions : List (Condition Expression)
 
 abbrev pub empty : Style
 empty = record { properties = []; defines = []; shows = []; colours = []; conditions = [] }
@@ -50,7 +53,7 @@ pub data Entry : Type 0 where
   define : Define → Entry
   show : Expression → Entry
   colour : Expression → Entry
-  condition : Condition → Entry
+  condition : Condition Expression → Entry
 
 abbrev pub with : Style → Entry → Style
 with s (property d) = record { properties = s .properties ++ d ∷ []; defines = s .defines; shows = s .shows; colours = s .colours; conditions = s .conditions }
@@ -61,13 +64,16 @@ with s (condition c) = record { properties = s .properties; defines = s .defines
 
 -- ---- which line may stand behind so many others
 
--- "All `prop` lines come first, then all `define` lines, then the other style lines"; "32 properties; 16 defines; 16 `cond` lines"; "At most one `show` and one `color`; `color` and `cond` don't stand together."
+-- "All `prop` lines come first, then all `define` lines, then the other style lines"; "32 properties; 16 defines; 16 `cond` lines"; "At
+-- most one `show` and one `color`; `color` and `cond` don't stand together."
 unfoldable pub admits : Line → ℕ → ℕ → ℕ → ℕ → ℕ → Bool
-admits line.Prop properties defines shows colours conditions = ltb properties 32 && (eqb defines 0 && (eqb shows 0 && (eqb colours 0 && eqb conditions 0)))
-admits line.Define properties defines shows colours conditions = ltb defines 16 && (eqb shows 0 && (eqb colours 0 && eqb conditions 0))
+admits line.Prop properties defines shows colours conditions =
+    ltb properties mostProperties && (eqb defines 0 && (eqb shows 0 && (eqb colours 0 && eqb conditions 0)))
+admits line.Define properties defines shows colours conditions =
+    ltb defines mostDefines && (eqb shows 0 && (eqb colours 0 && eqb conditions 0))
 admits line.Show properties defines shows colours conditions = ltb shows 1
 admits line.Color properties defines shows colours conditions = ltb colours 1 && eqb conditions 0
-admits line.Cond properties defines shows colours conditions = ltb conditions 16 && eqb colours 0
+admits line.Cond properties defines shows colours conditions = ltb conditions mostConditions && eqb colours 0
 admits line.Feat properties defines shows colours conditions = false
 admits line.Unknown properties defines shows colours conditions = false
 
@@ -100,3 +106,16 @@ definedIn (d ∷ ds) x other = cond (same x (d .name)) (d .expression .kinds) (d
 abbrev pub kindsIn : Scope → Style → List ℕ → Kinds
 kindsIn scope.Define s x = propertyKinds (propertyIn (s .properties) x)
 kindsIn scope.Style s x = definedIn (s .defines) x (propertyKinds (propertyIn (s .properties) x))
+
+-- ---- the numbers of names
+
+-- the number of the first that has a name, counted from one on, or another number
+abbrev pub numberFrom : ℕ → List (List ℕ) → ℕ → List ℕ → ℕ
+numberFrom n [] other x = other
+numberFrom n (y ∷ ys) other x = cond (same x y) n (numberFrom (suc n) ys other x)
+
+-- properties have theirs from 0 on, and defines behind the last that a property may have
+abbrev pub numberIn : Scope → Style → List ℕ → ℕ
+numberIn scope.Define s x = numberFrom 0 (map nameOf (s .properties)) layout.undeclared x
+numberIn scope.Style s x =
+    numberFrom firstDefine (map defineName (s .defines)) (numberFrom 0 (map nameOf (s .properties)) layout.undeclared x) x

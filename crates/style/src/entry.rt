@@ -1,199 +1,208 @@
-// What a line adds to the tables.
+// An item is judged: its expressions in turn, each with its tree in the slots beside the line.
 ghost use mathlib.Core.Path.{_≡_};
-ghost use Prim.Native.Nat.{_+_, _-_, _*_, _<_, _≤_};
-ghost use Rattle.style.specs.Inner.{isRefused, numberIn, placeIn, Fits, Within, withName, withExpression, countedWith, withRows, withEntry};
-use crate::tables::COLOUR;
-use crate::tables::Counts;
-use crate::tables::FIRST_CONDITION;
-use crate::tables::FIRST_DEFINE;
-use crate::tables::SHOW;
-use crate::tables::Tables;
-use crate::tables::with_counts;
-use crate::tables::with_expression;
-use crate::tables::with_name;
+ghost use Prim.Native.Nat.{_≤_};
+ghost use lib.ListN.{length};
+ghost use Rattle.style.specs.Inner.{isRefused, singleEntry, singlePurpose, FieldLies, ItemLies, FieldBy, DefinedBy, SingleJudgedBy, ColouredBy, ConditionJudgedBy, JudgedBy, ReadBy};
+use crate::expression::Entered;
+use crate::expression::Purpose;
+use crate::expression::enter;
+use crate::item::Item;
+use crate::item::item_of;
+use lexer::refusal::Refusal;
+use plan::layout::Names;
+use plan::layout::Plan;
+use text::part::Part;
 
-// Places count in the line. `from` and `to` are an expression's; `start` and `end` are a name's, and a
-// condition's are those of its colour.
+// An expression that is accepted: the part of the line that it is, the root of its tree, and its set of
+// kinds.
+pub(crate) struct Expression {
+    pub text: Part,
+    pub root: usize,
+    pub set: u16,
+}
+
+enum Field {
+    Refused(Refusal),
+    Accepted(Expression),
+}
+
+// What a line adds.
 pub(crate) enum Entry {
-    Refused {
-        number: u8,
-        place: usize,
-    },
+    Refused(Refusal),
     Property {
-        start: usize,
-        end: usize,
-        set: u8,
+        name: Part,
+        set: u16,
     },
     Define {
-        start: usize,
-        end: usize,
-        from: usize,
-        to: usize,
-        root: usize,
-        set: u8,
+        name: Part,
+        expression: Expression,
     },
-    Show {
-        from: usize,
-        to: usize,
-        root: usize,
-    },
-    Colour {
-        from: usize,
-        to: usize,
-        root: usize,
-    },
+    Show(Expression),
+    Colour(Expression),
     Condition {
-        from: usize,
-        to: usize,
-        test: usize,
-        start: usize,
-        end: usize,
-        root: usize,
+        test: Expression,
+        colour: Expression,
     },
 }
 
-pub(crate) fn is_refused(entry: Entry) -> bool
-    ensures { λ r. ⌜ r ≡ isRefused entry ⌝ }
+// The expression that is a part of the line.
+fn enter_part(
+    purpose: Purpose,
+    text: Part,
+    head: &[u8],
+    names: &Names,
+    plan: &Plan,
+    line: &[u8],
+    slots: &mut [u16],
+) -> Field
+    requires { ⌜ (length (now slots) ≡ length (now line)) × (text .start ≤ text .end) × (text .end ≤ length (now line)) ⌝ }
+    ensures { λ r. ⌜ FieldBy purpose text (now (head .entry)) (now (names .entry)) (now (plan .entry)) (now (line .entry))
+        (now (slots .entry)) (now (slots .exit)) r ⌝ }
 {
-    match entry {
-        Entry::Refused { .. } => true,
-        Entry::Property { .. } => false,
-        Entry::Define { .. } => false,
-        Entry::Show { .. } => false,
-        Entry::Colour { .. } => false,
-        Entry::Condition { .. } => false,
+    let from = text.start;
+    let to = text.end;
+    match enter(
+        purpose,
+        head,
+        names,
+        plan,
+        &line[from..to],
+        &mut slots[from..to],
+    ) {
+        Entered::Refused(refusal) => Field::Refused(refusal),
+        Entered::Accepted { root, set } => Field::Accepted(Expression { text, root, set }),
     }
 }
 
-// A refusal's number and place; 0 for what is none.
-pub(crate) fn number(entry: Entry) -> u8
-    ensures { λ r. ⌜ r ≡ numberIn entry ⌝ }
+fn define(
+    name: Part,
+    text: Part,
+    head: &[u8],
+    names: &Names,
+    plan: &Plan,
+    line: &[u8],
+    slots: &mut [u16],
+) -> Entry
+    requires { ⌜ (length (now slots) ≡ length (now line)) × FieldLies (now line) 1 name × FieldLies (now line) 2 text ⌝ }
+    ensures { λ r. ⌜ DefinedBy (now (head .entry)) (now (names .entry)) (now (plan .entry)) (now (line .entry)) (now (slots .entry))
+        (now (slots .exit)) r ⌝ }
 {
-    match entry {
-        Entry::Refused { number, place: _ } => number,
-        Entry::Property { .. } => 0,
-        Entry::Define { .. } => 0,
-        Entry::Show { .. } => 0,
-        Entry::Colour { .. } => 0,
-        Entry::Condition { .. } => 0,
+    match enter_part(Purpose::Define, text, head, names, plan, line, slots) {
+        Field::Refused(refusal) => Entry::Refused(refusal),
+        Field::Accepted(e) => Entry::Define {
+            name,
+            expression: e,
+        },
     }
 }
 
-pub(crate) fn place(entry: Entry) -> usize
-    ensures { λ r. ⌜ r ≡ placeIn entry ⌝ }
+fn single_purpose(colour: bool) -> Purpose
+    ensures { λ r. ⌜ r ≡ singlePurpose colour ⌝ }
 {
-    match entry {
-        Entry::Refused { number: _, place } => place,
-        Entry::Property { .. } => 0,
-        Entry::Define { .. } => 0,
-        Entry::Show { .. } => 0,
-        Entry::Colour { .. } => 0,
-        Entry::Condition { .. } => 0,
+    if colour {
+        Purpose::Colour
+    } else {
+        Purpose::Test
     }
 }
 
-// One line more of a word.
-fn counted(counts: Counts, entry: Entry) -> Counts
-    requires { ⌜ Fits entry counts ⌝ }
-    ensures { λ r. ⌜ r ≡ countedWith counts entry ⌝ }
+fn single_entry(colour: bool, e: Expression) -> Entry
+    ensures { λ r. ⌜ r ≡ singleEntry colour e ⌝ }
 {
-    let mut c = counts;
-    match entry {
-        Entry::Refused { .. } => {}
-        Entry::Property { .. } => c.properties += 1,
-        Entry::Define { .. } => c.defines += 1,
-        Entry::Show { .. } => c.shows += 1,
-        Entry::Colour { .. } => c.colours += 1,
-        Entry::Condition { .. } => c.conditions += 1,
-    }
-    c
-}
-
-// The rows of a line that begins at a place of the head.
-fn with_property(tables: Tables, at: usize, start: usize, end: usize, set: u8) -> Tables
-    requires { ⌜ (tables .counts .properties < 32) × (at ≤ 32768) × (start ≤ 32768 - at) × (end ≤ 32768 - at) ⌝ }
-    ensures { λ r. ⌜ r ≡ withName tables (tables .counts .properties) (at + start) (at + end) set ⌝ }
-{
-    let row = tables.counts.properties;
-    with_name(tables, row, at + start, at + end, set)
-}
-
-fn with_define(
-    tables: Tables,
-    at: usize,
-    start: usize,
-    end: usize,
-    from: usize,
-    to: usize,
-    root: usize,
-    set: u8,
-) -> Tables
-    requires { ⌜ (tables .counts .defines < 16) × (at ≤ 32768) × (start ≤ 32768 - at) × (end ≤ 32768 - at) × (from ≤ 32768 - at) × (to ≤ 32768 - at) ⌝ }
-    ensures { λ r. ⌜ r ≡ withExpression (withName tables (32 + tables .counts .defines) (at + start) (at + end) set) (tables .counts .defines) (at + from) (at + to) root ⌝ }
-{
-    let row = tables.counts.defines;
-    let named = with_name(tables, FIRST_DEFINE + row, at + start, at + end, set);
-    with_expression(named, row, at + from, at + to, root)
-}
-
-fn with_single(tables: Tables, row: usize, at: usize, from: usize, to: usize, root: usize) -> Tables
-    requires { ⌜ (row < 50) × (at ≤ 32768) × (from ≤ 32768 - at) × (to ≤ 32768 - at) ⌝ }
-    ensures { λ r. ⌜ r ≡ withExpression tables row (at + from) (at + to) root ⌝ }
-{
-    with_expression(tables, row, at + from, at + to, root)
-}
-
-fn with_condition(
-    tables: Tables,
-    at: usize,
-    from: usize,
-    to: usize,
-    test: usize,
-    start: usize,
-    end: usize,
-    root: usize,
-) -> Tables
-    requires { ⌜ (tables .counts .conditions < 16) × (at ≤ 32768) × (from ≤ 32768 - at) × (to ≤ 32768 - at) × (start ≤ 32768 - at) × (end ≤ 32768 - at) ⌝ }
-    ensures { λ r. ⌜ r ≡ withExpression (withExpression tables (18 + 2 * tables .counts .conditions) (at + from) (at + to) test) (18 + 2 * tables .counts .conditions + 1) (at + start) (at + end) root ⌝ }
-{
-    let conditions = tables.counts.conditions;
-    let row = FIRST_CONDITION + 2 * conditions;
-    let tested = with_expression(tables, row, at + from, at + to, test);
-    with_expression(tested, row + 1, at + start, at + end, root)
-}
-
-fn with_rows(tables: Tables, at: usize, entry: Entry) -> Tables
-    requires { ⌜ Fits entry (tables .counts) × (at ≤ 32768) × Within entry (32768 - at) ⌝ }
-    ensures { λ r. ⌜ r ≡ withRows tables at entry ⌝ }
-{
-    match entry {
-        Entry::Refused { .. } => tables,
-        Entry::Property { start, end, set } => with_property(tables, at, start, end, set),
-        Entry::Define {
-            start,
-            end,
-            from,
-            to,
-            root,
-            set,
-        } => with_define(tables, at, start, end, from, to, root, set),
-        Entry::Show { from, to, root } => with_single(tables, SHOW, at, from, to, root),
-        Entry::Colour { from, to, root } => with_single(tables, COLOUR, at, from, to, root),
-        Entry::Condition {
-            from,
-            to,
-            test,
-            start,
-            end,
-            root,
-        } => with_condition(tables, at, from, to, test, start, end, root),
+    if colour {
+        Entry::Colour(e)
+    } else {
+        Entry::Show(e)
     }
 }
 
-pub(crate) fn with_entry(tables: Tables, at: usize, entry: Entry) -> Tables
-    requires { ⌜ Fits entry (tables .counts) × (at ≤ 32768) × Within entry (32768 - at) ⌝ }
-    ensures { λ r. ⌜ r ≡ withEntry tables at entry ⌝ }
+// `show` or `color`.
+fn single(
+    colour: bool,
+    text: Part,
+    head: &[u8],
+    names: &Names,
+    plan: &Plan,
+    line: &[u8],
+    slots: &mut [u16],
+) -> Entry
+    requires { ⌜ (length (now slots) ≡ length (now line)) × FieldLies (now line) 1 text ⌝ }
+    ensures { λ r. ⌜ SingleJudgedBy colour (now (head .entry)) (now (names .entry)) (now (plan .entry)) (now (line .entry))
+        (now (slots .entry)) (now (slots .exit)) r ⌝ }
 {
-    let counts = counted(tables.counts, entry);
-    with_counts(with_rows(tables, at, entry), counts)
+    match enter_part(single_purpose(colour), text, head, names, plan, line, slots) {
+        Field::Refused(refusal) => Entry::Refused(refusal),
+        Field::Accepted(e) => single_entry(colour, e),
+    }
+}
+
+// The colour behind a test.
+fn with_colour(
+    test: Expression,
+    colour: Part,
+    head: &[u8],
+    names: &Names,
+    plan: &Plan,
+    line: &[u8],
+    slots: &mut [u16],
+) -> Entry
+    requires { ⌜ (length (now slots) ≡ length (now line)) × FieldLies (now line) 2 colour ⌝ }
+    ensures { λ r. ⌜ ColouredBy test (now (head .entry)) (now (names .entry)) (now (plan .entry)) (now (line .entry))
+        (now (slots .entry)) (now (slots .exit)) r ⌝ }
+{
+    match enter_part(Purpose::Colour, colour, head, names, plan, line, slots) {
+        Field::Refused(refusal) => Entry::Refused(refusal),
+        Field::Accepted(e) => Entry::Condition { test, colour: e },
+    }
+}
+
+fn condition(
+    test: Part,
+    colour: Part,
+    head: &[u8],
+    names: &Names,
+    plan: &Plan,
+    line: &[u8],
+    slots: &mut [u16],
+) -> Entry
+    requires { ⌜ (length (now slots) ≡ length (now line)) × FieldLies (now line) 1 test × FieldLies (now line) 2 colour ⌝ }
+    ensures { λ r. ⌜ ConditionJudgedBy (now (head .entry)) (now (names .entry)) (now (plan .entry)) (now (line .entry))
+        (now (slots .entry)) (now (slots .exit)) r ⌝ }
+{
+    match enter_part(Purpose::Test, test, head, names, plan, line, slots) {
+        Field::Refused(refusal) => Entry::Refused(refusal),
+        Field::Accepted(e) => with_colour(e, colour, head, names, plan, line, slots),
+    }
+}
+
+fn judged(
+    item: Item,
+    head: &[u8],
+    names: &Names,
+    plan: &Plan,
+    line: &[u8],
+    slots: &mut [u16],
+) -> Entry
+    requires { ⌜ (length (now slots) ≡ length (now line)) × ItemLies (now line) item ⌝ }
+    ensures { λ r. ⌜ JudgedBy item (now (head .entry)) (now (names .entry)) (now (plan .entry)) (now (line .entry))
+        (now (slots .entry)) (now (slots .exit)) r ⌝ }
+{
+    match item {
+        Item::Refused(refusal) => Entry::Refused(refusal),
+        Item::Property { name, set } => Entry::Property { name, set },
+        Item::Define { name, text } => define(name, text, head, names, plan, line, slots),
+        Item::Show(text) => single(false, text, head, names, plan, line, slots),
+        Item::Colour(text) => single(true, text, head, names, plan, line, slots),
+        Item::Condition { test, colour } => condition(test, colour, head, names, plan, line, slots),
+    }
+}
+
+// A line, 8 first and then its expressions.
+pub(crate) fn read(head: &[u8], names: &Names, plan: &Plan, line: &[u8], slots: &mut [u16]) -> Entry
+    requires { ⌜ length (now slots) ≡ length (now line) ⌝ }
+    ensures { λ r. ⌜ ReadBy (now (head .entry)) (now (names .entry)) (now (plan .entry)) (now (line .entry)) (now (slots .entry))
+        (now (slots .exit)) r ⌝ }
+{
+    let item = item_of(head, names, plan, line);
+    judged(item, head, names, plan, line, slots)
 }

@@ -7,9 +7,9 @@ use native.Mathlib.Omega.{arith}
 use lib.Dec.{ltb}
 use lib.ListN.{length, take, drop, length-take, length-drop, length-append}
 use borrow.Author.Tests.{eqb-true, ltb-false, le-ltb}
+use Rattle.lexer.specs.Refusal.{Judged, fine}
+use Rattle.lexer.specs.Refusal as judged
 use Rattle.lexer.specs.Scan.{scanOf}
-use Rattle.lexer.specs.declared.scan.Verdict.{Verdict}
-use Rattle.lexer.specs.declared.scan.Verdict.the-variants as scan
 use Rattle.tree.specs.Tree.{Tree, literal, variable, unary, binary, bare, call, pick, place, Arguments, last, next}
 use Rattle.tree.specs.Slots.{functionTag, operatorTag, commaTag, Shape, before, between, shapeOf, shapesOf, store}
 use Rattle.tree.specs.Node.{treeAt}
@@ -51,7 +51,7 @@ use Rattle.syntax.specs.Parser.{
 }
 use Rattle.syntax.specs.Height.{heightOf}
 use Rattle.syntax.specs.Names.{unknownIn, leftmostOf}
-use Rattle.syntax.specs.Judge.{Judged, fine, refusal, byNames, byHeight, byGrammar, byTokens, bySize, judgedOf, slotsAfter}
+use Rattle.syntax.specs.Judge.{byNames, byHeight, byGrammar, byTokens, bySize, judgedOf, slotsAfter}
 use Rattle.syntax.specs.Inner.{Sound, branchesShape}
 use Rattle.syntax.specs.declared.symbol.Symbol.{Symbol}
 use Rattle.syntax.specs.declared.names.Leftmost.{Leftmost}
@@ -337,9 +337,9 @@ module _ (text : List ℕ) where
   abbrev Right : Tree → Type 0
   Right e = (length text ≤ 1024) × (heightOf e ≤ 64) × Within 0 (length text) (shapeOf e) × Known e
 
-  abbrev IfFine : Judged → Type 0
+  abbrev IfFine : Judged Tree → Type 0
   IfFine (fine e) = Right e
-  IfFine (refusal n p) = Unit {0}
+  IfFine (judged.refused r) = Unit {0}
 
   names-right : (l : Leftmost) (e : Tree) → Right e → IfFine (byNames l e)
   names-right (At p) e h = tt
@@ -354,9 +354,9 @@ module _ (text : List ℕ) where
   grammar-right (refused y) q most = tt
   grammar-right spent q most = tt
 
-  tokens-right : (v : Verdict) → length text ≤ 1024 → IfFine (byTokens v text)
-  tokens-right (scan.Refused n p) most = tt
-  tokens-right scan.Fine most = grammar-right (parseOf text) refl most
+  tokens-right : (v : Judged (Unit {0})) → length text ≤ 1024 → IfFine (byTokens v text)
+  tokens-right (judged.refused r) most = tt
+  tokens-right (fine a) most = grammar-right (parseOf text) refl most
 
   size-right : (b : Bool) → ltb 1024 (length text) ≡ b → IfFine (bySize b text)
   size-right true q = tt

@@ -7,20 +7,20 @@ use Prim.Native.Nat.{ℕ, _≤_}
 use native.Mathlib.Omega.{arith}
 use lib.Dec.{ltb}
 use lib.ListN.{length}
+use Rattle.lexer.specs.Refusal.{refusalAt, Judged, fine, numberOf}
+use Rattle.lexer.specs.Refusal as judged
 use Rattle.lexer.specs.Tokens.{Placed, tokens, tokensOf}
 use Rattle.lexer.specs.Scan.{scanOf}
-use Rattle.lexer.specs.declared.scan.Verdict.{Verdict}
-use Rattle.lexer.specs.declared.scan.Verdict.the-variants as scan
+use Rattle.lexer.specs.declared.refusal.Refusal.{Refusal}
 use Rattle.lexer.proofs.Refusals.{With, scan-says}
 use Rattle.tree.specs.Tree.{Tree}
 use Rattle.syntax.specs.Parser.{Result, part, refused, spent, parseOf}
 use Rattle.syntax.specs.Height.{heightOf}
 use Rattle.syntax.specs.Names.{unknownIn, leftmostOf}
-use Rattle.syntax.specs.Judge.{refusal, byNames, byHeight, byGrammar, byTokens, bySize, judgedOf}
+use Rattle.syntax.specs.Judge.{byNames, byHeight, byGrammar, byTokens, bySize, judgedOf}
 use Rattle.syntax.specs.declared.names.Leftmost.{Leftmost}
 use Rattle.syntax.specs.declared.names.Leftmost.the-variants.{At, Nothing}
 use Rattle.syntax.specs.declared.symbol.Symbol.{Symbol}
-use Rattle.syntax.proofs.Grammar.Judged.{numberOf}
 
 module _ (text : List ℕ) where
   names-below : (l : Leftmost) (e : Tree) → numberOf (byNames l e) ≤ 6
@@ -36,10 +36,10 @@ module _ (text : List ℕ) where
   grammar-below (refused x) = omega arith
   grammar-below spent = omega arith
 
-  tokens-below : (v : Verdict) → ((p : ℕ) × (v ≡ scan.Refused 2 p)) ⊎ ((ts : List Placed) × (tokensOf text ≡ tokens ts) × With 3 v) → numberOf (byTokens v text) ≤ 6
-  tokens-below v (inl (p, e)) = subst (λ (v : Verdict). numberOf (byTokens v text) ≤ 6) (sym e) (omega arith)
-  tokens-below scan.Fine (inr (ts, e, w)) = grammar-below (parseOf text)
-  tokens-below (scan.Refused n p) (inr (ts, e, w)) = omega (arith, w)
+  tokens-below : (v : Judged (Unit {0})) → ((p : ℕ) × (v ≡ judged.refused (refusalAt 2 p))) ⊎ ((ts : List Placed) × (tokensOf text ≡ tokens ts) × With 3 v) → numberOf (byTokens v text) ≤ 6
+  tokens-below v (inl (p, e)) = subst (λ (v : Judged (Unit {0})). numberOf (byTokens v text) ≤ 6) (sym e) (omega arith)
+  tokens-below (fine a) (inr (ts, e, w)) = grammar-below (parseOf text)
+  tokens-below (judged.refused r) (inr (ts, e, w)) = omega (arith, w)
 
   below : numberOf (judgedOf text) ≤ 6
   unfolding judgedOf
@@ -49,5 +49,5 @@ module _ (text : List ℕ) where
       go true = omega arith
       go false = tokens-below (scanOf text) (scan-says text)
 
-  pub judged-below : (n p : ℕ) → judgedOf text ≡ refusal n p → n ≤ 6
-  judged-below n p e = subst (λ (n : ℕ). n ≤ 6) (ap numberOf e) below
+  pub judged-below : (r : Refusal) → judgedOf text ≡ judged.refused r → r .number ≤ 6
+  judged-below r e = subst (λ (n : ℕ). n ≤ 6) (ap numberOf e) below

@@ -5,6 +5,8 @@ use mathlib.Core.List.{List}
 use Prim.Native.Nat.{ℕ, _+_, _*_, _-_, _<_, _≤_}
 use lib.Dec.{leb}
 use lib.ListN.{length}
+use Rattle.lexer.specs.Refusal as judged
+use Rattle.lexer.specs.Refusal.{refusalAt, Judged}
 use Rattle.tree.specs.Tree.{Tree}
 use Rattle.tree.specs.Slots.{Shape, root, lay, shapeOf, shapesOf, between, operatorTag, store}
 use Rattle.tree.specs.Node.{argumentAt}
@@ -14,12 +16,11 @@ use Rattle.syntax.specs.Symbol.{dot, openSquare, closeSquare, closeRound
 use Rattle.syntax.specs.Parser.{Result, part, refused, Branches, branches, expressionFrom, branchesFrom, levelFrom, tailFrom, unaryFrom, postfixFrom, picksFrom, primaryFrom, callFrom, argumentsFrom, inText, parseOf}
 use Rattle.syntax.specs.Height.{heightOf}
 use Rattle.syntax.specs.Names.{unknownIn, lesser, leftmostOf}
-use Rattle.syntax.specs.Judge.{Judged, fine, refusal, answered}
+use Rattle.syntax.specs.Judge.{rootOf, answerOf}
 use Rattle.syntax.specs.declared.symbol.Symbol.{Symbol}
 use Rattle.syntax.specs.declared.names.Leftmost.{Leftmost}
 use Rattle.syntax.specs.declared.names.Leftmost.the-variants.{At, Nothing}
 use Rattle.syntax.specs.declared.judge.Judgement.{Judgement}
-use Rattle.syntax.specs.declared.judge.Judgement.the-variants.{Fine, Refused}
 use Rattle.syntax.specs.declared.parse.Parsed.{Parsed}
 use Rattle.syntax.specs.declared.parse.Parsed.the-variants as parsed
 use Rattle.syntax.specs.declared.parse.Picking.{Picking}
@@ -154,18 +155,18 @@ firstAt w p = firstIn (argumentAt w p) p
 -- ---- the judgement
 
 -- 5 and 6 over a tree with its root at a place
-abbrev pub namesJudged : Leftmost → ℕ → Judgement
-namesJudged (At p) root = Refused 6 p
-namesJudged Nothing root = Fine root
+abbrev pub namesJudged : Leftmost → ℕ → Judged ℕ
+namesJudged (At p) root = judged.refused (refusalAt 6 p)
+namesJudged Nothing root = judged.fine root
 
-abbrev pub treeJudged : List ℕ → ℕ → Tree → Judgement
-treeJudged text root e = cond (leb (heightOf e) 64) (namesJudged (leftmostOf (unknownIn text e)) root) (Refused 5 0)
+abbrev pub treeJudged : List ℕ → ℕ → Tree → Judged ℕ
+treeJudged text root e = cond (leb (heightOf e) 64) (namesJudged (leftmostOf (unknownIn text e)) root) (judged.refused (refusalAt 5 0))
 
-abbrev pub Kept : Judged → List ℕ → List ℕ → Type 0
-Kept (fine e) w v = v ≡ store w e
-Kept (refusal n p) w v = length v ≡ length w
+abbrev pub Kept : Judged Tree → List ℕ → List ℕ → Type 0
+Kept (judged.fine e) w v = v ≡ store w e
+Kept (judged.refused r) w v = length v ≡ length w
 
 -- r is the answer to a judgement, and the slots v hold its tree if it has one
-pub record JudgedBy (j : Judged) (w v : List ℕ) (r : Judgement) : Type 0 where
-  pub answers : r ≡ answered j
+pub record JudgedBy (j : Judged Tree) (w v : List ℕ) (r : Judgement) : Type 0 where
+  pub answers : answerOf r ≡ rootOf j
   pub keeps : Kept j w v

@@ -4,12 +4,12 @@ use mathlib.Core.List.{List, _++_}
 use Prim.Native.Nat.{ℕ}
 use lib.Dec.{ltb}
 use lib.ListN.{length, take, drop, replicate}
+use Rattle.lexer.specs.Refusal.{refusalAt, Judged, refused, fine, onFine}
 use Rattle.lexer.specs.Scan.{scanOf}
-use Rattle.lexer.specs.declared.scan.Verdict.{Verdict}
-use Rattle.lexer.specs.declared.scan.Verdict.the-variants as scan
 use Rattle.tree.specs.Tree.{Tree, place}
 use Rattle.tree.specs.Slots.{store}
-use Rattle.syntax.specs.Parser.{Result, part, refused, spent, parseOf}
+use Rattle.syntax.specs.Parser.{Result, part, spent, parseOf}
+use Rattle.syntax.specs.Parser as parser
 use Rattle.syntax.specs.Height.{heightOf}
 use Rattle.syntax.specs.Names.{unknownIn, leftmostOf}
 use Rattle.syntax.specs.declared.symbol.Symbol.{Symbol}
@@ -18,55 +18,55 @@ use Rattle.syntax.specs.declared.names.Leftmost.the-variants.{At, Nothin
 use Rattle.syntax.specs.declared.judge.Judgement.{Judgement}
 use Rattle.syntax.specs.declared.judge.Judgement.the-variants.{Fine, Refused}
 
--- an expression's tree, or a refusal's number and place
-pub data Judged : Type 0 where
-  fine : Tree → Judged
-  refusal : ℕ → ℕ → Judged
-
 -- "unknown function, member or colour word", "the leftmost"
-abbrev pub byNames : Leftmost → Tree → Judged
-byNames (At p) e = refusal 6 p
+abbrev pub byNames : Leftmost → Tree → Judged Tree
+byNames (At p) e = refused (refusalAt 6 p)
 byNames Nothing e = fine e
 
 -- "height over 64", at 0
-abbrev pub byHeight : Bool → List ℕ → Tree → Judged
-byHeight true text e = refusal 5 0
+abbrev pub byHeight : Bool → List ℕ → Tree → Judged Tree
+byHeight true text e = refused (refusalAt 5 0)
 byHeight false text e = byNames (leftmostOf (unknownIn text e)) e
 
 -- grammar; the steps never run out (`never-spent` in proofs/Grammar/Text.antt), so the last line is there for the definition's sake
-abbrev pub byGrammar : Result Symbol Tree → List ℕ → Judged
+abbrev pub byGrammar : Result Symbol Tree → List ℕ → Judged Tree
 byGrammar (part e x) text = byHeight (ltb 64 (heightOf e)) text e
-byGrammar (refused x) text = refusal 4 (x .at)
-byGrammar spent text = refusal 4 0
+byGrammar (parser.refused x) text = refused (refusalAt 4 (x .at))
+byGrammar spent text = refused (refusalAt 4 0)
 
 -- 2 and 3
-abbrev pub byTokens : Verdict → List ℕ → Judged
-byTokens (scan.Refused n p) text = refusal n p
-byTokens scan.Fine text = byGrammar (parseOf text) text
+abbrev pub byTokens : Judged (Unit {0}) → List ℕ → Judged Tree
+byTokens v text = onFine v (λ _. byGrammar (parseOf text) text)
 
 -- "expression 1,024 bytes"
-abbrev pub bySize : Bool → List ℕ → Judged
-bySize true text = refusal 1 1024
+abbrev pub bySize : Bool → List ℕ → Judged Tree
+bySize true text = refused (refusalAt 1 1024)
 bySize false text = byTokens (scanOf text) text
 
-unfoldable pub judgedOf : List ℕ → Judged
+-- an expression's tree, or its refusal
+unfoldable pub judgedOf : List ℕ → Judged Tree
 unfolding scanOf parseOf heightOf unknownIn
 judgedOf text = bySize (ltb 1024 (length text)) text
 
 -- ---- what the call answers, and what it leaves in the slots
 
-abbrev pub answered : Judged → Judgement
-answered (fine e) = Fine (place e)
-answered (refusal n p) = Refused n p
+-- of a tree, the place of its root
+abbrev pub rootOf : Judged Tree → Judged ℕ
+rootOf j = onFine j (λ e. fine (place e))
 
 -- The slots are work room: where there are fewer than bytes, 10 at 0, before anything else.
-abbrev pub answerOf : ℕ → List ℕ → Judgement
-answerOf slots text = cond (ltb slots (length text)) (Refused 10 0) (answered (judgedOf text))
+abbrev pub judgementOf : ℕ → List ℕ → Judged ℕ
+judgementOf slots text = cond (ltb slots (length text)) (refused (refusalAt 10 0)) (rootOf (judgedOf text))
+
+-- what the answer of `judge` says
+abbrev pub answerOf : Judgement → Judged ℕ
+answerOf (Fine root) = fine root
+answerOf (Refused r) = refused r
 
 -- the slots beside an expression, which hold its tree for whoever asked; after a refusal there is nothing to hold, and they are zero
-abbrev pub kept : Judged → List ℕ → List ℕ
+abbrev pub kept : Judged Tree → List ℕ → List ℕ
 kept (fine e) w = store w e
-kept (refusal n p) w = replicate (length w) 0
+kept (refused r) w = replicate (length w) 0
 
 -- Those slots, and the others as they were; under 10 all are as they were.
 abbrev pub slotsAfter : List ℕ → List ℕ → List ℕ

@@ -4,8 +4,8 @@ use mathlib.Core.List.{List, [], _∷_, _++_, map}
 use Prim.Native.Nat.{ℕ, _≤_}
 use lib.ListN.{length}
 use Rattle.lexer.specs.Tokens.{Placed, placed, tokenOf, tokens, tokensOf}
+use Rattle.lexer.specs.Refusal as judged
 use Rattle.lexer.specs.Scan.{scanOf}
-use Rattle.lexer.specs.declared.scan.Verdict.the-variants.{Fine}
 use Rattle.tree.specs.Tree.{Tree}
 use Rattle.syntax.specs.Symbol.{numberOf, seen}
 use Rattle.syntax.specs.Grammar.{expression, Derives}
@@ -54,7 +54,7 @@ module _ (text : List ℕ) where
   -- The checks before the grammar's are passed, 1 by the size and 2 and 3 by the scan, and these are the tokens.
   pub record Scanned (ts : List Placed) : Type 0 where
     pub short : length text ≤ 1024
-    pub fine : scanOf text ≡ Fine
+    pub fine : scanOf text ≡ judged.fine tt
     pub lexed : tokensOf text ≡ tokens ts
 
 -- a text that is a right expression, of tokens with these numbers

@@ -1,10 +1,10 @@
 // One case of a file: a line, the text that is judged, and its tree as it is printed.
 use crate::judged;
-use crate::read;
-use crate::report;
 use cases::line;
 use cases::tally;
 use cases::tally::Outcome;
+use reports::read;
+use reports::report;
 
 const LINE: usize = 15;
 
@@ -12,8 +12,7 @@ fn tree_agrees(fd: i32, name: &[u8], head: &[u8], text: &[u8], tree: &mut [u8]) 
     if read::text(fd, tree) {
         return judged::agrees(name, head, text, tree);
     }
-    report::malformed(name, head);
-    false
+    report::malformed(name, head)
 }
 
 // Lends the room for the tree.
@@ -23,16 +22,14 @@ fn with_tree(fd: i32, name: &[u8], head: &[u8], text: &[u8]) -> bool {
         let mut room = io::buffer();
         return tree_agrees(fd, name, head, text, &mut room[..length]);
     }
-    report::malformed(name, head);
-    false
+    report::malformed(name, head)
 }
 
 fn text_agrees(fd: i32, name: &[u8], head: &[u8], text: &mut [u8]) -> bool {
     if read::text(fd, text) {
         return with_tree(fd, name, head, text);
     }
-    report::malformed(name, head);
-    false
+    report::malformed(name, head)
 }
 
 // A line that is malformed does not agree.
@@ -44,8 +41,7 @@ fn agrees(fd: i32, name: &[u8], head: &[u8]) -> bool {
             return text_agrees(fd, name, head, &mut room[..length]);
         }
     }
-    report::malformed(name, head);
-    false
+    report::malformed(name, head)
 }
 
 // Nothing more to read is the end.

@@ -1,8 +1,8 @@
 // What the crate syntax says of a text: a refusal, or the tree that it lays into slots.
-use crate::report;
 use cases::line;
 use lexer::bytes::has_word;
 use printed::shown;
+use reports::report;
 use syntax::judge::Judgement;
 use syntax::judge::judge;
 
@@ -59,8 +59,8 @@ fn refusal_agrees(name: &[u8], head: &[u8], text: &[u8], number: u64, place: u64
     }
     report::text_difference(name, head, text);
     report::text(b"got");
-    report::digits(number, 1);
-    report::digits(place, 3);
+    report::hex(b" ", number, 1);
+    report::hex(b" ", place, 3);
     report::text(b"\n");
     false
 }
@@ -102,8 +102,14 @@ fn judgement_agrees(name: &[u8], head: &[u8], text: &[u8], tree: &[u8], slots: &
             tree_agrees(name, head, text, tree, slots, root, &mut page)
                 & rest_agrees(name, head, text, slots)
         }
-        Judgement::Refused { number, place } => {
-            refusal_agrees(name, head, text, number as u64, place as u64)
+        Judgement::Refused(refusal) => {
+            refusal_agrees(
+                name,
+                head,
+                text,
+                refusal.number as u64,
+                refusal.place as u64,
+            )
                 & clear_agrees(name, head, text, slots)
                 & rest_agrees(name, head, text, slots)
         }
@@ -114,7 +120,7 @@ fn judgement_agrees(name: &[u8], head: &[u8], text: &[u8], tree: &[u8], slots: &
 fn is_short(text: &[u8], slots: &mut [u16]) -> bool {
     match judge(text, slots) {
         Judgement::Fine { root: _ } => false,
-        Judgement::Refused { number, place } => (number == 10) & (place == 0),
+        Judgement::Refused(refusal) => (refusal.number == 10) & (refusal.place == 0),
     }
 }
 

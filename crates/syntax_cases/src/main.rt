@@ -2,13 +2,12 @@
 // cases there are and how many differ, and of each difference the line, the text and what came.
 mod case;
 mod judged;
-mod read;
-mod report;
 
 use cases::tally;
 use cases::tally::Outcome;
 use cases::tally::Tally;
 use cases::tally::sum;
+use reports::report;
 
 fn count_cases(fd: i32, name: &[u8]) -> Tally {
     let mut t = tally::NONE;
@@ -25,13 +24,11 @@ fn count_cases(fd: i32, name: &[u8]) -> Tally {
 fn run(name: &[u8]) -> Tally {
     let fd = os::open_read(name);
     if fd < 0 {
-        report::missing(name);
-        return tally::MISSING;
+        return report::missing(name);
     }
     let t = count_cases(fd, name);
     libc::close(fd);
-    report::counts(name, t);
-    t
+    report::counts(name, t)
 }
 
 // What the grammar makes of texts.

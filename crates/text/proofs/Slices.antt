@@ -1,10 +1,10 @@
 -- Parts of slices: what stands in one, and what one leaves alone.
-use mathlib.Core.Path.{_≡_, sym, _∙_, ap}
-use mathlib.Core.List.{List, [], _∷_}
+use mathlib.Core.Path.{_≡_, refl, sym, _∙_, ap}
+use mathlib.Core.List.{List, [], _∷_, _++_, append-assoc}
 use Prim.Native.Nat.{ℕ, zero, suc, _+_, _-_, _≤_}
 use native.Mathlib.Omega.{arith}
-use lib.ListN.{length, take, drop, length-append, length-take, length-drop}
-use lib.Seq.{slice, take-nil, take-append-le, take-take, drop-drop, take-at, drop-at}
+use lib.ListN.{length, take, drop, length-append, length-take, length-drop, take-append-drop}
+use lib.Seq.{slice, take-nil, take-append-le, take-take, take-add, drop-drop, take-at, drop-at}
 use Rattle.lexer.proofs.Law.Spelling.{slice-is}
 use Rattle.text.specs.Slice.{putBack}
 
@@ -49,3 +49,48 @@ module _ (l : List ℕ) (from to : ℕ) (part : List ℕ) (inside : to ≤ lengt
     pub put-length : length (putBack l from to part) ≡ length l
     unfolding putBack
     put-length = simp (length-append, length-take, length-drop, size) (omega arith)
+
+    -- another part in its place
+    pub put-again : (other : List ℕ) → putBack (putBack l from to part) from to other ≡ putBack l from to other
+    unfolding putBack
+    put-again other =
+        let rest : drop from (putBack l from to part) ≡ part ++ drop (to - from) (drop from l) = drop-at (take from l) _ from (simp length-take (omega arith)) in
+        λ i. put-before from (omega arith) i ++ (other ++ (ap (drop (to - from)) rest ∙ drop-at part _ (to - from) size) i)
+
+-- the part that stood there
+pub put-same : (l : List ℕ) (from to : ℕ) → putBack l from to (slice from to l) ≡ l
+unfolding putBack
+put-same l from to =
+    ap (λ (x : List ℕ). take from l ++ (x ++ drop (to - from) (drop from l))) (slice-is from to l)
+    ∙ ap (λ (x : List ℕ). take from l ++ x) (take-append-drop (to - from) (drop from l))
+    ∙ take-append-drop from l
+
+-- ---- a part of a part that is put back
+
+-- what stands behind a place of a front, and then the rest
+drop-front : (q m : ℕ) (l : List ℕ) → q ≤ m → drop q (take m l) ++ drop m l ≡ drop q l
+drop-front zero m l h = take-append-drop m l
+drop-front (suc q) zero l h = absurd (omega arith)
+drop-front (suc q) (suc m) [] h = refl
+drop-front (suc q) (suc m) (x ∷ l) h = drop-front q m l (omega arith)
+
+pub put-inside : (l : List ℕ) (at end p q : ℕ) (part : List ℕ) → at ≤ end → end ≤ length l → p ≤ q → at + q ≤ end →
+    putBack l at end (putBack (slice at end l) p q part) ≡ putBack l (at + p) (at + q) part
+unfolding putBack
+put-inside l at end p q part order inside low high =
+    let m = end - at in
+    let d = drop at l in
+    let own : slice at end l ≡ take m d = slice-is at end l in
+    let width : q - p ≡ at + q - (at + p) = omega arith in
+    let behind : drop (q - p) (drop p (take m d)) ++ drop m d ≡ drop (at + q - (at + p)) (drop (at + p) l) =
+    ap (λ (x : List ℕ). x ++ drop m d) (drop-drop (q - p) p (take m d))
+    ∙ drop-front (p + (q - p)) m d (omega arith)
+    ∙ sym (drop-drop (q - p) p d)
+    ∙ (λ i. drop (width i) (drop-drop p at l i)) in
+    ap (λ (w : List ℕ). take at l ++ ((take p w ++ (part ++ drop (q - p) (drop p w))) ++ drop m d)) own
+    ∙ ap (λ (x : List ℕ). take at l ++ x)
+    (append-assoc (take p (take m d)) (part ++ drop (q - p) (drop p (take m d))) (drop m d)
+    ∙ ap (λ (x : List ℕ). take p (take m d) ++ x) (append-assoc part (drop (q - p) (drop p (take m d))) (drop m d) ∙ ap (λ (x : List ℕ). part ++ x) behind)
+    ∙ ap (λ (x : List ℕ). x ++ (part ++ drop (at + q - (at + p)) (drop (at + p) l))) (take-take p m d (omega arith)))
+    ∙ sym (append-assoc (take at l) (take p d) (part ++ drop (at + q - (at + p)) (drop (at + p) l)))
+    ∙ ap (λ (x : List ℕ). x ++ (part ++ drop (at + q - (at + p)) (drop (at + p) l))) (sym (take-add at p l))

@@ -1,14 +1,15 @@
--- The head of an input: page 01, "What the painter reads" ("Everything before the first line whose first field is `feat` is the head; every line from there on is a strip.").
+-- The head of an input: page 01, "What the painter reads" ("Everything before the first line whose first field is `feat` is the head; every
+-- line from there on is a strip.").
 use mathlib.Core.Bool.{Bool, cond}
 use mathlib.Core.List.{List, [], _∷_}
 use Prim.Native.Nat.{ℕ, suc, _+_, min}
 use lib.ListN.{length}
-use Rattle.lexer.specs.Bytes.{same, ascii}
 use Rattle.text.specs.Parts.{lines, field}
+use Rattle.text.specs.Word.{isFeatureWord}
 
 -- a "line whose first field is `feat`"
 abbrev pub isFeature : List ℕ → Bool
-isFeature line = same (field line 0) (ascii "feat")
+isFeature line = isFeatureWord (field line 0)
 
 -- how many bytes the lines before the first such line have, with the LF that ends each
 unfoldable pub beforeFeatures : List (List ℕ) → ℕ

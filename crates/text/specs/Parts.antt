@@ -8,7 +8,8 @@ use Rattle.lexer.specs.Bytes.{run}
 use Rattle.words.specs.Table.{before}
 use Rattle.text.specs.declared.part.Part.{Part}
 
--- The parts of a text, each ended by one byte (the last may lack it). `end` is what stands for the end of the text: no part for lines, one empty part for fields.
+-- The parts of a text, each ended by one byte (the last may lack it). `end` is what stands for the end of the text: no part for lines, one
+-- empty part for fields.
 abbrev pub partsBefore : List (List ℕ) → ℕ → List ℕ → List (List ℕ)
 partsBefore end b [] = end
 partsBefore end b (x ∷ xs) = elim (eqb x b) [ true ↦ [] ∷ partsBefore end b xs | false ↦ before x (partsBefore end b xs) ]
@@ -48,7 +49,8 @@ fieldStart line i = startIn (fields line) i
 unfoldable pub partAt : ℕ → List ℕ → ℕ → Part
 partAt b text i =
     let ps = parted b text in
-    cond (ltb i (length ps)) (record { start = startIn ps i; end = startIn ps i + length (getD ps i []) }) (record { start = length text; end = length text })
+    cond (ltb i (length ps)) (record { start = startIn ps i; end = startIn ps i + length (getD ps i []) })
+    (record { start = length text; end = length text })
 
 -- where the part ends that begins at a place
 abbrev pub endFrom : ℕ → List ℕ → ℕ → ℕ

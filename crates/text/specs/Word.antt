@@ -1,9 +1,9 @@
 -- The words of lines, types and flags: page 01, "What the painter reads".
-use mathlib.Core.Bool.{true, false}
+use mathlib.Core.Bool.{Bool, true, false, cond}
 use mathlib.Core.List.{List, [], _∷_}
 use Prim.Native.Nat.{ℕ}
 use lib.ListN.{getD}
-use Rattle.lexer.specs.Bytes.{placeIn, ascii}
+use Rattle.lexer.specs.Bytes.{same, placeIn, ascii}
 use Rattle.kind.specs.declared.kind.Kind.the-variants.{Boolean, Number, String, Vec2, Vec3, Vec4}
 use Rattle.text.specs.declared.word.Line.{Line}
 use Rattle.text.specs.declared.word.Line.the-variants as line
@@ -12,18 +12,25 @@ use Rattle.text.specs.declared.word.TypeName.the-variants as type
 use Rattle.text.specs.declared.word.Flags.{Flags}
 use Rattle.text.specs.declared.word.Flags.the-variants as flags
 
--- `prop`, `define`, `show`, `color`, `cond`, `feat`
+-- `feat` begins a strip's line
+abbrev pub featureWord : List ℕ
+featureWord = ascii "feat"
+
+abbrev pub isFeatureWord : List ℕ → Bool
+isFeatureWord word = same word featureWord
+
+-- `prop`, `define`, `show`, `color` and `cond` begin those of a head
 abbrev pub lineWords : List (List ℕ)
-lineWords = ascii "prop" ∷ ascii "define" ∷ ascii "show" ∷ ascii "color" ∷ ascii "cond" ∷ ascii "feat" ∷ []
+lineWords = ascii "prop" ∷ ascii "define" ∷ ascii "show" ∷ ascii "color" ∷ ascii "cond" ∷ []
 
 abbrev pub linesListed : List Line
-linesListed = line.Prop ∷ line.Define ∷ line.Show ∷ line.Color ∷ line.Cond ∷ line.Feat ∷ []
+linesListed = line.Prop ∷ line.Define ∷ line.Show ∷ line.Color ∷ line.Cond ∷ []
 
 abbrev pub lineNumbered : ℕ → Line
 lineNumbered n = getD linesListed n line.Unknown
 
 unfoldable pub lineOf : List ℕ → Line
-lineOf word = lineNumbered (placeIn lineWords word)
+lineOf word = cond (isFeatureWord word) line.Feat (lineNumbered (placeIn lineWords word))
 
 -- "Type: `Boolean`, `Number`, `String`, `vec2`, `vec3`, `vec4`."
 abbrev pub typeWords : List (List ℕ)

@@ -4,13 +4,14 @@ ghost use Prim.Native.Nat.{_≤_};
 ghost use lib.ListN.{length};
 ghost use Rattle.text.specs.Head.{isFeature, headEnd};
 use crate::part;
-use lexer::bytes::has_word;
+use crate::word;
 
 // Whether a line is one of a feature, by its first field.
-fn is_feature(line: &[u8]) -> bool
+pub fn is_feature(line: &[u8]) -> bool
     ensures { λ r. ⌜ r ≡ isFeature (now (line .entry)) ⌝ }
 {
-    (part::end(part::TAB, line, 0) == 4) & has_word(line, 0, b"feat")
+    let end = part::end(part::TAB, line, 0);
+    word::is_feature(&line[..end])
 }
 
 // Where the first line of a feature begins, or the input's end if there is none.

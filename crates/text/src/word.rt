@@ -1,9 +1,10 @@
 // The words that lines begin with, and those of types and flags.
 ghost use mathlib.Core.Path.{_≡_};
 ghost use Rattle.lexer.specs.Bytes.{placeIn};
-ghost use Rattle.text.specs.Word.{lineNumbered, lineOf, typeNumbered, typeOf, flagWords, flagsNumbered, flagsOf};
+ghost use Rattle.text.specs.Word.{isFeatureWord, lineNumbered, lineOf, typeNumbered, typeOf, flagWords, flagsNumbered, flagsOf};
 use kind::kind::Kind;
 use lexer::bytes::has_byte;
+use lexer::bytes::has_word;
 use words::table::number_in;
 
 // What a line is by its first field.
@@ -38,7 +39,6 @@ fn line_numbered(number: usize) -> Line
         2 => Line::Show,
         3 => Line::Color,
         4 => Line::Cond,
-        5 => Line::Feat,
         _ => Line::Unknown,
     }
 }
@@ -57,10 +57,20 @@ fn type_numbered(number: usize) -> TypeName
     }
 }
 
+// Whether a word is that of a feature's line. Every such line is asked, so it is no table's word.
+pub fn is_feature(word: &[u8]) -> bool
+    ensures { λ r. ⌜ r ≡ isFeatureWord (now (word .entry)) ⌝ }
+{
+    (word.len() == 4) & has_word(word, 0, b"feat")
+}
+
 pub fn line_of(word: &[u8]) -> Line
     ensures { λ r. ⌜ r ≡ lineOf (now (word .entry)) ⌝ }
 {
-    line_numbered(number_in(b"prop define show color cond feat", word, false))
+    if is_feature(word) {
+        return Line::Feat;
+    }
+    line_numbered(number_in(b"prop define show color cond", word, false))
 }
 
 pub fn type_of(word: &[u8]) -> TypeName

@@ -1,5 +1,6 @@
-// Writing a node into the slots, at its place.
+// Writing a node into the slots, at its place, and clearing them.
 ghost use mathlib.Core.Path.{_≡_};
+ghost use lib.ListN.{length, replicate};
 ghost use Rattle.tree.specs.Slots.{put, join, variableTag, functionTag, operatorTag, commaTag, pickTag};
 use crate::slots::set_joint;
 use crate::slots::set_slot;
@@ -69,4 +70,15 @@ pub fn pick(slots: &mut [u16], at: usize, index: u8, part: usize)
     ensures { λ _. ⌜ now (slots .exit) ≡ put (now (slots .entry)) at (pickTag index) part ⌝ }
 {
     set_slot(slots, at, 56 + index as usize, part);
+}
+
+// Makes slots zero.
+pub fn clear(slots: &mut [u16])
+    ensures { λ _. ⌜ now (slots .exit) ≡ replicate (length (now (slots .entry))) 0 ⌝ }
+{
+    let mut i = 0;
+    while i < slots.len() {
+        slots[i] = 0;
+        i += 1;
+    }
 }

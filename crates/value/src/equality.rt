@@ -1,7 +1,5 @@
 // `===`: values of unlike kinds differ, strings are compared by bytes, and vectors by components.
 ghost use mathlib.Core.Path.{_≡_};
-ghost use Prim.Native.Nat.{_≤_, min};
-ghost use lib.Seq.{slice};
 ghost use Rattle.lexer.specs.Bytes.{same};
 ghost use Rattle.value.specs.Value.{textIn};
 ghost use Rattle.value.specs.Equality.{partsEqual, equalOf};
@@ -12,25 +10,7 @@ use crate::value::is_true;
 use crate::value::kind_of;
 use crate::value::span_of;
 use kind::kind::is;
-
-pub(crate) fn least(a: usize, b: usize) -> usize
-    ensures is { λ r. ⌜ r ≡ min a b ⌝ }
-    ensures first { λ r. ⌜ r ≤ a ⌝ }
-    ensures second { λ r. ⌜ r ≤ b ⌝ }
-{
-    if a < b { a } else { b }
-}
-
-// Whether parts of two texts are the same. A part goes no further than its text.
-pub fn same_part(a: &[u8], start: usize, end: usize, b: &[u8], from: usize, to: usize) -> bool
-    ensures { λ r. ⌜ r ≡ same (slice start end (now (a .entry))) (slice from to (now (b .entry))) ⌝ }
-{
-    let stop = least(end, a.len());
-    let begin = least(start, stop);
-    let last = least(to, b.len());
-    let first = least(from, last);
-    check::same(&a[begin..stop], &b[first..last])
-}
+use lexer::bytes::same_part;
 
 // Whether two strings are the same: each lies in the style's text or in the feature's.
 pub fn same_text(style: &[u8], feature: &[u8], a: Span, b: Span) -> bool

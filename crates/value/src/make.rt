@@ -6,7 +6,6 @@ ghost use Rattle.value.specs.Value.{textIn};
 ghost use Rattle.value.specs.Meaning.{byComponent, logicOf, equalityOf, dotOf, crossAt, productOf, joinedAt, orWhite, alphaOr, colorOf, vec4Of, constructed, madeOf};
 ghost use Rattle.value.specs.Inner.{productAt, scalarAt};
 use crate::equality::equal;
-use crate::equality::least;
 use crate::scalar::binary;
 use crate::scalar::order;
 use crate::scalar::ternary;
@@ -29,6 +28,7 @@ use kind::operation::Logic;
 use kind::operation::Operation;
 use kind::operation::Product;
 use kind::operation::index;
+use lexer::bytes::least;
 
 // ---- by component
 

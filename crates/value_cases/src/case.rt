@@ -3,8 +3,6 @@ use crate::color;
 use crate::colours;
 use crate::names;
 use crate::numbers;
-use crate::read;
-use crate::report;
 use crate::rules;
 use crate::sets;
 use crate::shown;
@@ -12,6 +10,8 @@ use crate::strings;
 use cases::line;
 use cases::tally;
 use cases::tally::Outcome;
+use reports::read;
+use reports::report;
 ghost use Prim.Native.Nat.{_≤_};
 
 // What the cases of a file are about.
@@ -67,8 +67,7 @@ fn text_length(s: Subject, head: &[u8]) -> usize {
 // Reads the text behind the line and compares what is said of it.
 fn text_agrees(fd: i32, name: &[u8], s: Subject, head: &[u8], text: &mut [u8]) -> bool {
     if !read::text(fd, text) {
-        report::malformed(name, head);
-        return false;
+        return report::malformed(name, head);
     }
     match s {
         Subject::Strings => strings::agrees(fd, name, head, text),
@@ -85,15 +84,13 @@ fn with_text(fd: i32, name: &[u8], s: Subject, head: &[u8]) -> bool {
         let mut room = io::buffer();
         return text_agrees(fd, name, s, head, &mut room[..length]);
     }
-    report::malformed(name, head);
-    false
+    report::malformed(name, head)
 }
 
 // A line that is malformed does not agree.
 fn agrees(fd: i32, name: &[u8], s: Subject, head: &[u8]) -> bool {
     if !is_well_formed(s, head) {
-        report::malformed(name, head);
-        return false;
+        return report::malformed(name, head);
     }
     match s {
         Subject::Rules => rules::agrees(name, head),

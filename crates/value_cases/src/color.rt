@@ -1,12 +1,12 @@
 // Cases of the constructor color: a line has up to two arguments, a literal of the style's text and
 // an alpha, and the vec4 that is given.
 use crate::doubles;
-use crate::report;
 use crate::values;
 use cases::line;
 use kind::operation::Constructor;
 use kind::operation::Operation;
 use number::bits::from_bits;
+use reports::report;
 use value::apply::Outcome;
 use value::apply::apply0;
 use value::apply::apply1;

@@ -1,9 +1,9 @@
 // Cases of whether a text names a colour, and which.
 use crate::doubles;
-use crate::report;
 use cases::line;
 use colour::colour::Colour;
 use colour::text::Named;
+use reports::report;
 
 // What a line has in place of a colour.
 const NOTHING: Colour = Colour {

@@ -1,9 +1,9 @@
 // Four doubles of a line with single spaces between, which are a colour's.
-use crate::report;
 use cases::line;
 use colour::colour::Colour;
 use number::bits::from_bits;
 use number::bits::to_bits;
+use reports::report;
 ghost use Prim.Native.Nat.{_≤_};
 
 fn pattern(head: &[u8], at: usize) -> u64
@@ -34,8 +34,8 @@ pub(crate) fn agree(head: &[u8], at: usize, c: Colour) -> bool
 }
 
 pub(crate) fn print(c: Colour) {
-    report::digits(to_bits(c.red), 16);
-    report::digits(to_bits(c.green), 16);
-    report::digits(to_bits(c.blue), 16);
-    report::digits(to_bits(c.alpha), 16);
+    report::hex(b" ", to_bits(c.red), 16);
+    report::hex(b" ", to_bits(c.green), 16);
+    report::hex(b" ", to_bits(c.blue), 16);
+    report::hex(b" ", to_bits(c.alpha), 16);
 }

@@ -9,8 +9,6 @@ mod kinds;
 mod names;
 mod numbers;
 mod operations;
-mod read;
-mod report;
 mod rules;
 mod sets;
 mod shown;
@@ -22,6 +20,7 @@ use cases::tally;
 use cases::tally::Outcome;
 use cases::tally::Tally;
 use cases::tally::sum;
+use reports::report;
 
 fn count_cases(fd: i32, name: &[u8], s: Subject) -> Tally {
     let mut t = tally::NONE;
@@ -38,13 +37,11 @@ fn count_cases(fd: i32, name: &[u8], s: Subject) -> Tally {
 fn run(name: &[u8], s: Subject) -> Tally {
     let fd = os::open_read(name);
     if fd < 0 {
-        report::missing(name);
-        return tally::MISSING;
+        return report::missing(name);
     }
     let t = count_cases(fd, name, s);
     libc::close(fd);
-    report::counts(name, t);
-    t
+    report::counts(name, t)
 }
 
 fn main() {

@@ -1,7 +1,7 @@
 // Cases of a word as the name of a function and as a member's.
 use crate::operations;
-use crate::report;
 use cases::line;
+use reports::report;
 use value::name::Found;
 use value::name::function_at;
 use value::name::function_number;
@@ -34,10 +34,10 @@ pub(crate) fn agrees(name: &[u8], head: &[u8], word: &[u8]) -> bool {
     }
     report::text_difference(name, head, word);
     report::text(b"got");
-    report::digits(function as u64, 2);
-    report::digits(called, 2);
-    report::digits(member as u64, 1);
-    report::digits(picked, 2);
+    report::hex(b" ", function as u64, 2);
+    report::hex(b" ", called, 2);
+    report::hex(b" ", member as u64, 1);
+    report::hex(b" ", picked, 2);
     report::text(b"\n");
     false
 }

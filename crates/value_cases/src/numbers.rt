@@ -1,10 +1,10 @@
 // Cases of an operation on values, none of them a String: a line has up to four operands and what
 // is given.
 use crate::operations;
-use crate::report;
 use crate::values;
 use cases::line;
 use kind::operation::Operation;
+use reports::report;
 use value::apply::Outcome;
 use value::apply::apply0;
 use value::apply::apply1;

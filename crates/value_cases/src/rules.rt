@@ -2,13 +2,13 @@
 // are, the kinds of all but the last, and what is given for each kind of the last.
 use crate::kinds;
 use crate::operations;
-use crate::report;
 use cases::line;
 use kind::choice::Operands;
 use kind::kind::Kind;
 use kind::kind::Ruled;
 use kind::kind::number;
 use kind::rule::rule;
+use reports::report;
 
 pub(crate) fn is_well_formed(head: &[u8]) -> bool {
     line::fits(head, b"hhhhhhh ????????\n")

@@ -2,12 +2,12 @@
 // and whether it is refused (R) or accepted (A), and with which set.
 use crate::kinds;
 use crate::operations;
-use crate::report;
 use cases::line;
 use kind::choice::Checked;
 use kind::choice::Parts;
 use kind::choice::node_kinds;
 use kind::choice::with;
+use reports::report;
 
 pub(crate) fn is_well_formed(head: &[u8]) -> bool {
     line::fits(head, b"hh h hhhhhhhhhhhh ? hh\n")
@@ -41,7 +41,7 @@ fn set_agrees(name: &[u8], head: &[u8], mark: u8, mask: u64) -> bool {
     report::difference(name, head);
     report::text(b"got ");
     report::text(&[mark]);
-    report::digits(mask, 2);
+    report::hex(b" ", mask, 2);
     report::text(b"\n");
     false
 }

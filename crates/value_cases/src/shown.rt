@@ -1,9 +1,9 @@
 // Cases of a colour as it is shown: clamped, and its bytes.
 use crate::doubles;
-use crate::report;
 use cases::line;
 use colour::colour::Colour;
 use colour::colour::Rgba8;
+use reports::report;
 
 pub(crate) fn is_well_formed(head: &[u8]) -> bool {
     line::fits(
@@ -23,10 +23,10 @@ fn bytes_agree(head: &[u8], b: Rgba8) -> bool {
 fn print(c: Colour, b: Rgba8) {
     report::text(b"got");
     doubles::print(c);
-    report::digits(b.red as u64, 2);
-    report::digits(b.green as u64, 2);
-    report::digits(b.blue as u64, 2);
-    report::digits(b.alpha as u64, 2);
+    report::hex(b" ", b.red as u64, 2);
+    report::hex(b" ", b.green as u64, 2);
+    report::hex(b" ", b.blue as u64, 2);
+    report::hex(b" ", b.alpha as u64, 2);
     report::text(b"\n");
 }
 

@@ -2,10 +2,10 @@
 // The style's text stands behind the line, and the feature's behind that.
 use crate::kinds;
 use crate::operations;
-use crate::read;
-use crate::report;
 use crate::values;
 use cases::line;
+use reports::read;
+use reports::report;
 use value::apply::apply2;
 use value::value::Span;
 use value::value::Value;
@@ -64,8 +64,7 @@ fn read_feature(fd: i32, name: &[u8], head: &[u8], style: &[u8], feature: &mut [
     if read::text(fd, feature) {
         return texts_agree(name, head, style, feature);
     }
-    report::malformed(name, head);
-    false
+    report::malformed(name, head)
 }
 
 pub(crate) fn agrees(fd: i32, name: &[u8], head: &[u8], style: &[u8]) -> bool {
@@ -74,6 +73,5 @@ pub(crate) fn agrees(fd: i32, name: &[u8], head: &[u8], style: &[u8]) -> bool {
         let mut room = io::buffer();
         return read_feature(fd, name, head, style, &mut room[..length]);
     }
-    report::malformed(name, head);
-    false
+    report::malformed(name, head)
 }

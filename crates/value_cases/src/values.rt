@@ -1,10 +1,10 @@
 // Values as digits: a kind and the patterns of four doubles, of which a Boolean has 0 or 1 as the
 // first, and those that the kind does not have are 0.
-use crate::report;
 use kind::kind::dimension;
 use kind::kind::number;
 use number::bits::from_bits;
 use number::bits::to_bits;
+use reports::report;
 use value::apply::Outcome;
 use value::value::Value;
 use value::value::component;
@@ -52,10 +52,10 @@ pub(crate) fn pattern(v: Value, i: u8) -> u64 {
 // What came.
 pub(crate) fn print(v: Value) {
     report::text(b"got");
-    report::digits(kind_number(v), 1);
-    report::digits(pattern(v, 0), 16);
-    report::digits(pattern(v, 1), 16);
-    report::digits(pattern(v, 2), 16);
-    report::digits(pattern(v, 3), 16);
+    report::hex(b" ", kind_number(v), 1);
+    report::hex(b" ", pattern(v, 0), 16);
+    report::hex(b" ", pattern(v, 1), 16);
+    report::hex(b" ", pattern(v, 2), 16);
+    report::hex(b" ", pattern(v, 3), 16);
     report::text(b"\n");
 }

@@ -2,6 +2,8 @@
 use mathlib.Core.Path.{_≡_, refl, sym, _∙_, ap}
 use mathlib.Core.List.{List, [], _∷_, _++_, append-nil, append-assoc}
 use Prim.Native.Nat.{ℕ, _-_}
+use Rattle.lexer.specs.Refusal.{Judged, refused, fine}
+use Rattle.lexer.specs.declared.refusal.Refusal.{Refusal}
 use Rattle.kind.specs.Choice.{partsOf}
 use Rattle.kind.specs.declared.set.Kinds.{Kinds}
 use Rattle.kind.proofs.AnyCount.{any-count, with-parts}
@@ -15,7 +17,7 @@ use Rattle.tree.specs.declared.node.Node.the-variants.{Literal, Variable, Unary
 use Rattle.syntax.proofs.Law.Nodes.{tree-step}
 use Rattle.kind.specs.Set.{singleOf}
 use Rattle.checker.specs.Operator.{prefixAt, infixAt}
-use Rattle.checker.specs.Kinds.{Gathered, refusedAt, sets, after, gathered, placed, operated, nodeOf, literalKind, conditionalOf, kindsOf, kindsOfAll}
+use Rattle.checker.specs.Kinds.{after, gathered, placed, operated, nodeOf, literalKind, conditionalOf, kindsOf, kindsOfAll}
 use Rattle.checker.specs.Inner.{noChecks, withAll, nodeBy}
 use Rattle.checker.specs.declared.check.Verdict.{Verdict}
 use Rattle.checker.specs.declared.check.Verdict.the-variants.{Refused, Accepted}
@@ -25,31 +27,31 @@ use Rattle.checker.specs.declared.check.Checks.the-variants as checks
 -- ---- parts that are known one after the other
 
 -- after a refusal nothing changes
-refused-all : (p : ℕ) (vs : List Verdict) → withAll (checks.Refused p) vs ≡ checks.Refused p
-refused-all p [] = refl
-refused-all p (v ∷ vs) = refused-all p vs
+refused-all : (r : Refusal) (vs : List Verdict) → withAll (checks.Refused r) vs ≡ checks.Refused r
+refused-all r [] = refl
+refused-all r (v ∷ vs) = refused-all r vs
 
 -- parts held up to four, by the list of their sets
-abbrev known : List Kinds → Gathered → Checks
-known ts (refusedAt p) = checks.Refused p
-known ts (sets ss) = checks.Sets (partsOf (ts ++ ss))
+abbrev known : List Kinds → Judged (List Kinds) → Checks
+known ts (refused r) = checks.Refused r
+known ts (fine ss) = checks.Sets (partsOf (ts ++ ss))
 
-known-after : (ts : List Kinds) (s : Kinds) (ps : Gathered) → known (ts ++ s ∷ []) ps ≡ known ts (after s ps)
-known-after ts s (refusedAt p) = refl
-known-after ts s (sets ss) = ap (λ us. checks.Sets (partsOf us)) (append-assoc ts (s ∷ []) ss)
+known-after : (ts : List Kinds) (s : Kinds) (ps : Judged (List Kinds)) → known (ts ++ s ∷ []) ps ≡ known ts (after s ps)
+known-after ts s (refused r) = refl
+known-after ts s (fine ss) = ap (λ us. checks.Sets (partsOf us)) (append-assoc ts (s ∷ []) ss)
 
 all-known : (ts : List Kinds) (vs : List Verdict) → withAll (checks.Sets (partsOf ts)) vs ≡ known ts (gathered vs)
 all-known ts [] = ap (λ us. checks.Sets (partsOf us)) (sym (append-nil ts))
-all-known ts (Refused p ∷ vs) = refused-all p vs
+all-known ts (Refused r ∷ vs) = refused-all r vs
 all-known ts (Accepted s ∷ vs) =
     ap (λ ps. withAll (checks.Sets ps) vs) (sym (with-parts ts s)) ∙ all-known (ts ++ s ∷ []) vs ∙ known-after ts s (gathered vs)
 
 -- the node has the definition's verdict
-node-known : (p : ℕ) (found : Found) (ps : Gathered) → nodeBy p found (known [] ps) ≡ operated p found ps
+node-known : (p : ℕ) (found : Found) (ps : Judged (List Kinds)) → nodeBy p found (known [] ps) ≡ operated p found ps
 unfolding nodeBy
-node-known p found (refusedAt q) = refl
-node-known p (Known o) (sets ss) = ap (placed p) (sym (any-count o ss))
-node-known p Unknown (sets ss) = refl
+node-known p found (refused r) = refl
+node-known p (Known o) (fine ss) = ap (placed p) (sym (any-count o ss))
+node-known p Unknown (fine ss) = refl
 
 pub node-all : (p : ℕ) (found : Found) (vs : List Verdict) → nodeBy p found (withAll noChecks vs) ≡ nodeOf p found vs
 node-all p found vs = ap (nodeBy p found) (all-known [] vs) ∙ node-known p found (gathered vs)

@@ -22,7 +22,7 @@ use Rattle.lexer.proofs.Law.Spelling.{slice-is}
 use Rattle.lexer.proofs.Munch.{munch}
 use Rattle.tree.specs.Slots.{put, variableTag}
 use Rattle.checker.specs.Name.{firstRow, propertyRow, rowIn, numbered, onward, resolvedFrom, resolvedSlots}
-use Rattle.checker.specs.Inner.{Stands}
+use Rattle.checker.specs.Inner.{isVariable, Stands}
 use Rattle.checker.specs.declared.name.Scope.{Scope}
 use Rattle.checker.specs.declared.name.Scope.the-variants.{Define, Style}
 
@@ -93,13 +93,6 @@ module _ (p : ℕ → Bool) where
 
 -- ---- tokens
 
-abbrev isVariable : Token → Bool
-isVariable (Number digits places) = false
-isVariable String = false
-isVariable Variable = true
-isVariable (Word k) = false
-isVariable (Punctuator k) = false
-
 -- a variable has a byte at least between `${` and `}`
 long-variable : {s : List ℕ} {t : Token} → Spells s t → isVariable t ≡ true → 3 < length s
 long-variable (spelling.number d h) e = absurd (false≢true e)
@@ -109,6 +102,21 @@ long-variable (spelling.variable bs a h) e =
     omega (arith, length-append bs (125 ∷ []))
 long-variable (spelling.word b bs h a) e = absurd (false≢true e)
 long-variable (spelling.punctuator m) e = absurd (false≢true e)
+
+-- by the test whether a token is a variable
+variable-is : (t : Token) → isVariable t ≡ true → t ≡ Variable
+variable-is (Number digits places) e = absurd (false≢true e)
+variable-is String e = absurd (false≢true e)
+variable-is Variable e = refl
+variable-is (Word k) e = absurd (false≢true e)
+variable-is (Punctuator k) e = absurd (false≢true e)
+
+variable-not : (number : List ℕ → ℕ) (text w : List ℕ) (t : Token) (at end : ℕ) → isVariable t ≡ false → w ≡ numbered number text t at end w
+variable-not number text w (Number digits places) at end e = refl
+variable-not number text w String at end e = refl
+variable-not number text w Variable at end e = absurd (false≢true (sym e))
+variable-not number text w (Word k) at end e = refl
+variable-not number text w (Punctuator k) at end e = refl
 
 -- what the lexer finds stands in the text
 stands : (text : List ℕ) (from : ℕ) (t : Token) (at end : ℕ) → Ahead from (length text) (Found t at end) → Munch text from (Found t at end) → Stands text t at end
@@ -126,11 +134,13 @@ module _ (text : List ℕ) (from : ℕ) (x : Lexeme) (is : x ≡ lexemeAt text f
   pub found-stands : Stands text t at end
   found-stands = stands text from t at end found-ahead (subst (Munch text from) (sym is ∙ found) (munch text from))
 
+  pub found-variable : (b : Bool) → b ≡ isVariable t → b ≡ true → Stands text Variable at end
+  found-variable b e h = subst (λ t. Stands text t at end) (variable-is t (sym e ∙ h)) found-stands
+
 -- the code takes the name as a part of the text
-pub variable-numbered : (number : List ℕ → ℕ) (text w v : List ℕ) (t : Token) (at end n : ℕ) → t ≡ Variable → n ≡ number (take (end - 1 - (at + 2)) (drop (at + 2) text)) →
-    v ≡ put w at variableTag n → v ≡ numbered number text t at end w
-variable-numbered number text w v t at end n e i h =
-    h ∙ ap (put w at variableTag) (i ∙ ap number (sym (slice-is (at + 2) (end - 1) text))) ∙ ap (λ t. numbered number text t at end w) (sym e)
+pub variable-numbered : (number : List ℕ → ℕ) (text w v : List ℕ) (at end n : ℕ) → n ≡ number (take (end - 1 - (at + 2)) (drop (at + 2) text)) →
+    v ≡ put w at variableTag n → v ≡ numbered number text Variable at end w
+variable-numbered number text w v at end n i h = h ∙ ap (put w at variableTag) (i ∙ ap number (sym (slice-is (at + 2) (end - 1) text)))
 
 -- ---- token after token
 
@@ -157,7 +167,7 @@ module _ (number : List ℕ → ℕ) (text w₀ : List ℕ) where
 
   -- one more lexeme
   module _ (w : List ℕ) (from : ℕ) (r : Resolving number text w₀ w from) (x : Lexeme) (is : x ≡ lexemeAt text from) where
-    pub resolving-on : (t : Token) (at end : ℕ) (v : List ℕ) → x ≡ Found t at end → v ≡ numbered number text t at end w → length v ≡ length w → Resolving number text w₀ v end
+    resolving-on : (t : Token) (at end : ℕ) (v : List ℕ) → x ≡ Found t at end → v ≡ numbered number text t at end w → length v ≡ length w → Resolving number text w₀ v end
     resolving-on t at end v found h size = go (r .steps) (r .enough) (r .comes)
       where
         go : (n : ℕ) → length text ≤ n + from → resolvedFrom number text n from w ≡ resolvedSlots number text w₀ → Resolving number text w₀ v end
@@ -168,6 +178,14 @@ module _ (number : List ℕ → ℕ) (text w₀ : List ℕ) where
           comes = ap (resolvedFrom number text n end) h ∙ sym (one-step number text from w n (Found t at end) (sym is ∙ found)) ∙ e;
           size = size ∙ r .size;
         }
+
+    -- by the test whether it is a variable
+    module _ (t : Token) (at end : ℕ) (found : x ≡ Found t at end) (b : Bool) (e : b ≡ isVariable t) where
+      pub resolving-variable : b ≡ true → (v : List ℕ) → v ≡ numbered number text Variable at end w → length v ≡ length w → Resolving number text w₀ v end
+      resolving-variable h v i size = resolving-on t at end v found (i ∙ ap (λ t. numbered number text t at end w) (sym (variable-is t (sym e ∙ h)))) size
+
+      pub resolving-other : b ≡ false → Resolving number text w₀ w end
+      resolving-other h = resolving-on t at end w found (variable-not number text w t at end (sym e ∙ h)) refl
 
     -- where no token stands nothing changes any more
     stopped : ((rest : ℕ → List ℕ → List ℕ) → onward number text x w rest ≡ w) → w ≡ resolvedSlots number text w₀

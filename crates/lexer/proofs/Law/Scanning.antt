@@ -7,6 +7,7 @@ use native.Mathlib.Numerals.{add-one}
 use native.Mathlib.Omega.{arith}
 use lib.Dec.{ltb}
 use lib.ListN.{length}
+use Rattle.lexer.specs.Refusal.{refusalAt, Judged, refused}
 use Rattle.lexer.specs.Token.{lexemeAt}
 use Rattle.lexer.specs.Tokens.{Placed, placed, Lexed, tokens, badAt, after, tokensFrom}
 use Rattle.lexer.specs.Scan.{bracketOf, bracketsIn, verdictOf, scanOf}
@@ -17,15 +18,13 @@ use Rattle.lexer.specs.declared.token.Lexeme.the-variants.{Found, Bad, E
 use Rattle.lexer.specs.declared.scan.Bracket.{Bracket}
 use Rattle.lexer.specs.declared.scan.Bracket.the-variants.{Opens, Closes, Neither}
 use Rattle.lexer.specs.declared.scan.Brackets.{Brackets}
-use Rattle.lexer.specs.declared.scan.Verdict.{Verdict}
-use Rattle.lexer.specs.declared.scan.Verdict.the-variants.{Refused}
 use Rattle.lexer.proofs.Law.Ahead.{Ahead, ahead}
 use Rattle.lexer.proofs.OnDemand.{on-found, on-bad, on-end}
 
 -- the verdict on the rest of a text, after what has been seen of brackets
-abbrev pub restVerdict : Brackets → Lexed → Verdict
-restVerdict seen (tokens ts) = cond (seen .over) (Refused 3 (seen .place)) (bracketsIn (seen .count) ts)
-restVerdict seen (badAt p) = Refused 2 p
+abbrev pub restVerdict : Brackets → Lexed → Judged (Unit {0})
+restVerdict seen (tokens ts) = cond (seen .over) (refused (refusalAt 3 (seen .place))) (bracketsIn (seen .count) ts)
+restVerdict seen (badAt p) = refused (refusalAt 2 p)
 
 step : (b : Bracket) (seen : Brackets) (t : Token) (at end : ℕ) (ts : List Placed) → seen .over ≡ false → bracketOf t ≡ b →
     restVerdict (changed b seen at) (tokens ts) ≡ bracketsIn (seen .count) (placed t at end ∷ ts)
@@ -48,7 +47,7 @@ seen-token seen t at end (tokens ts) = go (seen .over) refl
     go false o =
         ap (λ (u : Bool). restVerdict (cond u seen (changed (bracketOf t) seen at)) (tokens ts)) o
         ∙ step (bracketOf t) seen t at end ts o refl
-        ∙ sym (ap (λ (u : Bool). cond u (Refused 3 (seen .place)) (bracketsIn (seen .count) (placed t at end ∷ ts))) o)
+        ∙ sym (ap (λ (u : Bool). cond u (refused (refusalAt 3 (seen .place))) (bracketsIn (seen .count) (placed t at end ∷ ts))) o)
 
 module _ (text : List ℕ) (from : ℕ) (seen : Brackets) where
   pub scan-found : (x : Lexeme) (t : Token) (at end : ℕ) (next : Brackets) → x ≡ lexemeAt text from → x ≡ Found t at end → next ≡ nextBrackets seen t at →
@@ -58,7 +57,7 @@ module _ (text : List ℕ) (from : ℕ) (seen : Brackets) where
       ∙ seen-token seen t at end (tokensFrom text end)
       ∙ ap (restVerdict seen) (sym (on-found text from t at end (sym e ∙ f)))
 
-  pub scan-bad : (x : Lexeme) (at end : ℕ) → x ≡ lexemeAt text from → x ≡ Bad at end → Refused 2 at ≡ restVerdict seen (tokensFrom text from)
+  pub scan-bad : (x : Lexeme) (at end : ℕ) → x ≡ lexemeAt text from → x ≡ Bad at end → refused (refusalAt 2 at) ≡ restVerdict seen (tokensFrom text from)
   scan-bad x at end e f = ap (restVerdict seen) (sym (on-bad text from at end (sym e ∙ f)))
 
   pub scan-end : (x : Lexeme) → x ≡ lexemeAt text from → x ≡ End → bracketVerdict seen ≡ restVerdict seen (tokensFrom text from)

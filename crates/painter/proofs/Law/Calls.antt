@@ -1,162 +1,230 @@
 -- What the calls answer, by what they were answered.
 use mathlib.Core.Path.{_≡_, refl, sym, _∙_, ap, subst}
-use mathlib.Core.Bool.{Bool, true, false, cond, _||_, false≢true}
-use mathlib.Core.List.{List}
-use Prim.Native.Nat.{ℕ, _+_, _<_, _≤_, min}
+use mathlib.Core.Bool.{Bool, true, false, cond, false≢true}
+use mathlib.Core.List.{List, []}
+use Prim.Native.Nat.{ℕ, _<_, _≤_, min}
 use native.Mathlib.Omega.{arith}
-use borrow.Author.Tests.{lt-ltb, le-ltb}
+use borrow.Author.Tests.{lt-ltb, le-ltb, ltb-false}
 use lib.Dec.{ltb}
 use lib.Ieee.{Float}
 use lib.ListN.{length, replicate}
-use Rattle.number.specs.Arithmetic.{nought}
+use Rattle.lexer.specs.Refusal.{Judged, refused, fine, onFine}
+use Rattle.lexer.specs.declared.refusal.Refusal.{Refusal}
+use Rattle.plan.specs.Layout.{spansSize, floatsSize}
+use Rattle.style.specs.Answer.{Answer, refusal, accepted, onAccepted}
 use Rattle.style.specs.Style.{Style}
-use Rattle.style.specs.Head.{Headed, refusedAt, gives, headOf, checkedOf, roomSize}
+use Rattle.style.specs.Head.{headOf, headSize, roomSize, shortRoom, longHead, styleOf, checkedOf}
 use Rattle.style.specs.Head as style
-use Rattle.style.specs.Tables.{Leaves}
+use Rattle.style.specs.Compile.{planBy, planAfter, roomBy, treesAfter}
+use Rattle.style.specs.Holds.{Holds}
 use Rattle.style.specs.declared.check.Checked.{Checked}
 use Rattle.style.specs.declared.check.Checked.the-variants as checked
-use Rattle.style.specs.declared.check.Refusal.{Refusal}
-use Rattle.style.specs.declared.tables.Tables.{Tables}
+use Rattle.style.specs.declared.check.LineRefusal.{LineRefusal}
 use Rattle.style.proofs.Accepted.{accepted-stand}
+use Rattle.style.proofs.Held.{compiled-length, compiled-holds}
 use Rattle.style.proofs.Law.Ladder.{taken, passed}
-use Rattle.style.proofs.Law.Loop.{isAccepted}
-use Rattle.feature.specs.Feature.{setsOf, Entered, refused, entered, complete, broken, enteredOf, answered, featureOf, rowsAfter, floatsAfter, valuesOf, rowsWith, floatsWith}
+use Rattle.style.proofs.Law.Answers.{isFine, refusalIn, isAccepted, lineOf, refusalOf}
+use Rattle.feature.specs.Feature.{Values, complete, broken, setsOf, featureOf, allConform, valuesOf}
+use Rattle.feature.specs.Feature as feature
 use Rattle.feature.specs.declared.feature.Feature.{Feature}
 use Rattle.feature.specs.declared.feature.Feature.the-variants.{Refused, Read}
 use Rattle.output.specs.Line.{front, refusedFeature}
-use Rattle.output.specs.declared.line.Colouring.{Colouring}
 use Rattle.output.proofs.Law.Lines.{front-within}
-use Rattle.painter.specs.Paint.{Answer, refusal, answerOf, featured, headed, isShort, paintedOf, outAfter, roomAfter, printedBy}
-use Rattle.painter.specs.declared.paint.Painted.{Painted}
-use Rattle.painter.specs.declared.paint.Painted.the-variants as painted
-use Rattle.painter.specs.Arrays.{tableSource, drawn, appliedBy, appliedOf}
-use Rattle.painter.proofs.Law.Drawn.{applied-is}
+use Rattle.painter.specs.Paint.{Written, onValues, givenAnswer, givenLine, drawnAnswer, answerOf, featured, leastBytes, shortBuffer, paintedOf, outAfter, roomAfter, printedBy}
+use Rattle.painter.specs.declared.answer.Given.{Given}
+use Rattle.painter.specs.declared.answer.Drawn.{Drawn}
+use Rattle.painter.specs.declared.answer.Drawn.the-variants as drawn
+use Rattle.painter.specs.declared.answer.Painted.{Painted}
+use Rattle.painter.specs.declared.answer.Painted.the-variants as painted
+use Rattle.painter.specs.Applied.{Source, source, Arrays, allDefined, withValues, givenAt, enteredBy, givenUnder, definedBy, arraysAfter, lineWritten, writtenBy, appliedOf, appliedArrays}
+use Rattle.painter.proofs.Law.Drawn.{given-is, applied-is}
 
 -- ---- a feature that was read
 
-abbrev numberIn : Feature → ℕ
-numberIn (Refused n p) = n
-numberIn Read = 0
+module _ (x : Source) (number : ℕ) (a : Arrays) (r : Feature) (is : feature.answerOf r ≡ featureOf (setsOf (x .plan)) number (x .feature)) where
+  -- the arrays behind it
+  abbrev read : Arrays
+  read = withValues (valuesOf (enteredBy x number)) a
 
-abbrev placeIn : Feature → ℕ
-placeIn (Refused n p) = p
-placeIn Read = 0
-
-abbrev isRead : Feature → Bool
-isRead (Refused n p) = false
-isRead Read = true
-
--- a buffer that is too small
-pub applied-short : (head : List ℕ) (t : Tables) (room feature : List ℕ) (number : ℕ) (out : List ℕ) → length out < 32 → (refusal 10 0 0, out) ≡ appliedOf head t room feature number out
-unfolding appliedOf
-applied-short head t room feature number out h = sym (taken _ (lt-ltb (length out) 32 h) refl)
-
-module _ (head : List ℕ) (t : Tables) (room feature : List ℕ) (number : ℕ) (out : List ℕ) (r : Feature) (is : r ≡ featureOf (setsOf (t .sets) (t .counts .properties)) number feature) where
-  abbrev applied : Entered → Answer × List ℕ
-  applied x = appliedBy (tableSource head feature room t) (t .counts) number out x
-
-  pub applied-refused : 32 ≤ length out → (n p : ℕ) → r ≡ Refused n p → (refusal n number p, out) ≡ appliedOf head t room feature number out
-  unfolding appliedOf
-  applied-refused k n p e = sym (passed _ (le-ltb (length out) 32 k) (sym (go (enteredOf (setsOf (t .sets) (t .counts .properties)) number feature) (sym is ∙ e))))
+  pub given-refused : (q : Refusal) → r ≡ Refused q → (refusal number q ≡ givenUnder x number a) × (read ≡ arraysAfter x number a)
+  unfolding givenUnder arraysAfter
+  given-refused q e = go (enteredBy x number) (sym is ∙ ap feature.answerOf e)
     where
-      go : (x : Entered) → answered x ≡ Refused n p → (refusal n number p, out) ≡ applied x
-      go (refused m q) h = λ i. (refusal (ap numberIn (sym h) i) number (ap placeIn (sym h) i), out)
-      go (entered (broken vs q)) h = λ i. (refusal (ap numberIn (sym h) i) number (ap placeIn (sym h) i), out)
-      go (entered (complete vs)) h = absurd (false≢true (sym (ap isRead h)))
+      go : (j : Judged Values) → onFine j allConform ≡ refused q →
+          (refusal number q ≡ onValues number j (λ vs. givenAt x (allDefined x (withValues vs a)))) × (withValues (valuesOf j) a ≡ definedBy x j (withValues (valuesOf j) a))
+      go (refused p) h = (ap (λ j. refusal number (refusalIn q j)) (sym h), refl)
+      go (fine (broken vs p)) h = (ap (λ j. refusal number (refusalIn q j)) (sym h), refl)
+      go (fine (complete vs)) h = absurd (false≢true (sym (ap isFine h)))
 
-  pub applied-read : 32 ≤ length out → r ≡ Read → (rows : List ℕ) (floats : List Float) →
-      (rows ≡ rowsAfter (setsOf (t .sets) (t .counts .properties)) number feature (replicate 144 0)) × (floats ≡ floatsAfter (setsOf (t .sets) (t .counts .properties)) number feature (replicate 192 nought)) →
-      (a : Answer) (out′ : List ℕ) → (a, out′) ≡ drawn (tableSource head feature room t) (t .counts) number out rows floats → (a, out′) ≡ appliedOf head t room feature number out
-  unfolding appliedOf
-  applied-read k e rows floats s a out′ d =
-      d
-      ∙ (λ i. drawn (tableSource head feature room t) (t .counts) number out (s .0 i) (s .1 i))
-      ∙ sym (passed _ (le-ltb (length out) 32 k) (sym (go (enteredOf (setsOf (t .sets) (t .counts .properties)) number feature) (sym is ∙ e))))
+  pub given-read : r ≡ Read → (after : Arrays) → after ≡ allDefined x read → (given : Given) → given ≡ givenAt x after →
+      (accepted given ≡ givenUnder x number a) × (after ≡ arraysAfter x number a)
+  unfolding givenUnder arraysAfter
+  given-read e after d given g = go (enteredBy x number) (sym is ∙ ap feature.answerOf e) d
     where
-      go : (x : Entered) → answered x ≡ Read →
-          drawn (tableSource head feature room t) (t .counts) number out (rowsWith 0 (valuesOf x) (replicate 144 0)) (floatsWith 0 (valuesOf x) (replicate 192 nought)) ≡ applied x
-      go (refused m q) h = absurd (false≢true (ap isRead h))
-      go (entered (broken vs q)) h = absurd (false≢true (ap isRead h))
-      go (entered (complete vs)) h = refl
+      go : (j : Judged Values) → onFine j allConform ≡ fine tt → after ≡ allDefined x (withValues (valuesOf j) a) →
+          (accepted given ≡ onValues number j (λ vs. givenAt x (allDefined x (withValues vs a)))) × (after ≡ definedBy x j (withValues (valuesOf j) a))
+      go (refused p) h d = absurd (false≢true (ap isFine h))
+      go (fine (broken vs p)) h d = absurd (false≢true (ap isFine h))
+      go (fine (complete vs)) h d = (ap accepted (g ∙ ap (givenAt x) d), d)
+
+-- ---- a style that is applied
+
+module _ (x : Source) (number : ℕ) (out : List ℕ) (a : Arrays) where
+  -- a buffer that is too small
+  pub applied-short : length out < leastBytes → ((shortBuffer, out) ≡ appliedOf x number out a) × (a ≡ appliedArrays x number out a)
+  unfolding appliedOf appliedArrays
+  applied-short h = let e = lt-ltb (length out) leastBytes h in (sym (taken _ e refl), sym (taken _ e refl))
+
+  module _ (enough : leastBytes ≤ length out) (after : Arrays) (arrays : after ≡ arraysAfter x number a) (d : Drawn) (is : drawnAnswer d ≡ givenUnder x number a) where
+    by-given : (w : Answer Written × List ℕ) → w ≡ writtenBy number out (drawnAnswer d) → (w ≡ appliedOf x number out a) × (after ≡ appliedArrays x number out a)
+    unfolding appliedOf appliedArrays
+    by-given w h =
+        let e = le-ltb (length out) leastBytes enough in
+        (h ∙ ap (writtenBy number out) is ∙ sym (passed _ e refl), arrays ∙ sym (passed _ e refl))
+
+    pub applied-refused : (r : LineRefusal) → d ≡ drawn.Refused r →
+        ((answerOf (painted.Refused r), out) ≡ appliedOf x number out a) × (after ≡ appliedArrays x number out a)
+    applied-refused r e = by-given _ (ap (λ d. writtenBy number out (drawnAnswer d)) (sym e))
+
+    pub applied-given : (given : Given) → d ≡ drawn.Given given → (out′ : List ℕ) (bytes : ℕ) → (out′, bytes) ≡ front out (givenLine number given) →
+        ((answerOf (painted.Painted given bytes), out′) ≡ appliedOf x number out a) × (after ≡ appliedArrays x number out a)
+    applied-given given e out′ bytes w = by-given _ (ap (lineWritten given) w ∙ ap (λ d. writtenBy number out (drawnAnswer d)) (sym e))
+
+-- ---- what is printed
+
+module _ (a : Painted) (number : ℕ) (out : List ℕ) where
+  pub printed-painted : (given : Given) (bytes : ℕ) → a ≡ painted.Painted given bytes → (r : ℕ) → r ≡ min bytes (length out) →
+      ((out, r) ≡ printedBy (answerOf a) number out) × (r ≤ length out)
+  printed-painted given bytes e r h = ((λ i. (out, h i)) ∙ ap (λ (a : Painted). printedBy (answerOf a) number out) (sym e), omega (arith, h))
+
+  pub printed-refused : (x : LineRefusal) → a ≡ painted.Refused x → (out′ : List ℕ) (r : ℕ) →
+      (out′, r) ≡ front out (refusedFeature number (x .refusal .number) (x .refusal .place)) → ((out′, r) ≡ printedBy (answerOf a) number out) × (r ≤ length out)
+  printed-refused x e out′ r h = (h ∙ ap (λ (a : Painted). printedBy (answerOf a) number out) (sym e), front-within _ _ h)
+
+-- ---- a head that is accepted
+
+-- it gives a style, and the room and the head's size were right
+pub accepted-style : (slots : ℕ) (head : List ℕ) → checkedOf slots head ≡ accepted tt → (s : Style) × (styleOf slots head ≡ accepted s) × (headOf head ≡ accepted s) × (roomSize ≤ slots) × (length head ≤ headSize)
+unfolding styleOf
+accepted-style slots head = go (ltb slots roomSize) refl (ltb headSize (length head)) refl (headOf head)
+  where
+    by : Bool → Bool → Answer Style → Answer Style
+    by t u x = cond t shortRoom (cond u longHead x)
+
+    go : (t : Bool) → ltb slots roomSize ≡ t → (u : Bool) → ltb headSize (length head) ≡ u → (x : Answer Style) →
+        _≡_ {A = Answer (Unit {0})} (onAccepted (by t u x) (λ s. accepted tt)) (accepted tt) →
+        (s : Style) × (by t u x ≡ accepted s) × (x ≡ accepted s) × (roomSize ≤ slots) × (length head ≤ headSize)
+    go true f u g x e = absurd (false≢true (ap isAccepted e))
+    go false f true g x e = absurd (false≢true (ap isAccepted e))
+    go false f false g (refusal n r) e = absurd (false≢true (ap isAccepted e))
+    go false f false g (accepted s) e = (s, refl, refl, ltb-false slots roomSize f, ltb-false headSize (length head) g)
+
+module _ (head room plan : List ℕ) (ok : checkedOf (length room) head ≡ accepted tt) where
+  abbrev given-style : Style
+  given-style = accepted-style (length room) head ok .0
+
+  styled : styleOf (length room) head ≡ accepted given-style
+  styled = accepted-style (length room) head ok .1
+
+  is : headOf head ≡ accepted given-style
+  is = accepted-style (length room) head ok .2
+
+  enough : roomSize ≤ length room
+  enough = accepted-style (length room) head ok .3
+
+  small : length head ≤ headSize
+  small = accepted-style (length room) head ok .4
+
+  -- the room and the plan that compiling leaves
+  abbrev trees : List ℕ
+  trees = treesAfter head room
+
+  abbrev planned : List ℕ
+  planned = planAfter (length room) head plan
+
+  size : length trees ≡ length room
+  size = ap (λ (x : Answer Style). length (roomBy x head room)) styled ∙ compiled-length head room given-style is small enough
+
+  held : Holds head trees planned given-style
+  held =
+      subst (λ (x : Answer Style). Holds head (roomBy x head room) (planBy x head plan) given-style) (sym styled)
+      (compiled-holds head room given-style is small enough)
+
+  module _ (number : ℕ) (feature : List ℕ) (a : Arrays) (spans-size : length (a .0) ≡ spansSize) (floats-size : length (a .1) ≡ floatsSize) where
+    abbrev compiled : Source
+    compiled = source head feature trees planned
+
+    fits : length head ≤ length trees
+    fits = omega (arith, size, enough, small)
+
+    -- they give what the style gives, whatever the arrays held before
+    pub compiled-given : givenUnder compiled number a ≡ onAccepted (styleOf (length room) head) (λ s. givenAnswer s number feature)
+    compiled-given =
+        given-is head feature trees planned fits given-style held (accepted-stand head given-style is) number a spans-size floats-size
+        ∙ ap (λ x. onAccepted x (λ s. givenAnswer s number feature)) (sym styled)
+
+    pub compiled-applied : (out : List ℕ) → leastBytes ≤ length out →
+        (let answer = paintedOf (length out) (length room) head number feature in appliedOf compiled number out a ≡ (answer, outAfter answer number out))
+    unfolding paintedOf
+    compiled-applied out h =
+        applied-is head feature trees planned fits given-style held (accepted-stand head given-style is) number a spans-size floats-size out h
+        ∙ (λ i. (painted-as i, outAfter (painted-as i) number out))
+      where
+        painted-as : featured given-style number feature ≡ paintedOf (length out) (length room) head number feature
+        painted-as =
+            sym (passed shortBuffer (le-ltb (length out) leastBytes h) (ap (λ x. onAccepted x (λ s. featured s number feature)) styled))
 
 -- ---- the painter's call
 
 module _ (bytes : ℕ) (room : List ℕ) (head : List ℕ) (number : ℕ) (feature : List ℕ) where
   -- a buffer that is too small
-  pub short-answer : bytes < 32 → refusal 10 0 0 ≡ paintedOf bytes (length room) head number feature
+  pub short-answer : bytes < leastBytes → shortBuffer ≡ paintedOf bytes (length room) head number feature
   unfolding paintedOf
-  short-answer h = sym (taken _ (ap (λ (b : Bool). b || ltb (length room) roomSize) (lt-ltb bytes 32 h)) refl)
+  short-answer h = sym (taken _ (lt-ltb bytes leastBytes h) refl)
 
-  pub short-room : bytes < 32 → room ≡ roomAfter bytes room
-  short-room h = sym (taken _ (ap (λ (b : Bool). b || ltb (length room) roomSize) (lt-ltb bytes 32 h)) refl)
+  pub short-room : bytes < leastBytes → room ≡ roomAfter bytes room
+  short-room h = sym (taken _ (lt-ltb bytes leastBytes h) refl)
 
-  module _ (enough : 32 ≤ bytes) where
-    -- then the room decides
-    by-room : isShort bytes (length room) ≡ ltb (length room) roomSize
-    by-room = ap (λ (b : Bool). b || ltb (length room) roomSize) (le-ltb bytes 32 enough)
+  module _ (enough : leastBytes ≤ bytes) (c : Checked) (is : style.answerOf c ≡ checkedOf (length room) head) where
+    -- a head that is refused
+    module _ (r : LineRefusal) (e : c ≡ checked.Refused r) where
+      refused-style : styleOf (length room) head ≡ refusal (r .line) (r .refusal)
+      refused-style = go (styleOf (length room) head) (sym is ∙ ap style.answerOf e)
+        where
+          go : (x : Answer Style) → _≡_ {A = Answer (Unit {0})} (onAccepted x (λ s. accepted tt)) (refusal (r .line) (r .refusal)) → x ≡ refusal (r .line) (r .refusal)
+          go (refusal n q) h = λ i. refusal (ap lineOf h i) (ap (refusalOf q) h i)
+          go (accepted s) h = absurd (false≢true (sym (ap isAccepted h)))
 
-    same-room : style.roomAfter room ≡ roomAfter bytes room
-    same-room = ap (λ (b : Bool). cond b room (replicate (length room) 0)) (sym by-room)
-
-    -- ---- a head that is refused
-
-    abbrev answerIn : style.Answer → Answer
-    answerIn (style.refusal m n p) = refusal m n p
-    answerIn style.accepted = refusal 0 0 0
-
-    pub refused-answer : (x : Checked) → style.answerOf x ≡ checkedOf (length room) head → (r : Refusal) → x ≡ checked.Refused r →
-        refusal (r .number) (r .line) (r .place) ≡ paintedOf bytes (length room) head number feature
-    unfolding checkedOf paintedOf
-    refused-answer x is r e =
-        go (ltb (length room) roomSize) (ltb 32768 (length head)) (headOf head) (sym is ∙ ap style.answerOf e)
-        ∙ ap (λ (b : Bool). cond b (refusal 10 0 0) (cond (ltb 32768 (length head)) (refusal 1 0 32768) (headed (headOf head) number feature))) (sym by-room)
-      where
-        go : (a b : Bool) (h : Headed) → cond a (style.refusal 10 0 0) (cond b (style.refusal 1 0 32768) (style.answered h)) ≡ style.refusal (r .number) (r .line) (r .place) →
-            refusal (r .number) (r .line) (r .place) ≡ cond a (refusal 10 0 0) (cond b (refusal 1 0 32768) (headed h number feature))
-        go true b h q = ap answerIn (sym q)
-        go false true h q = ap answerIn (sym q)
-        go false false (refusedAt m n p) q = ap answerIn (sym q)
-        go false false (gives s) q = absurd (false≢true (sym (ap isAccepted q)))
-
-    pub refused-room : (x : Checked) (after : List ℕ) (t : Tables) → Leaves x head room after t → (r : Refusal) → x ≡ checked.Refused r → after ≡ roomAfter bytes room
-    refused-room x after t l r e = subst (λ (x : Checked). Leaves x head room after t) e l .1 ∙ same-room
-
-    -- ---- a head that is accepted
-
-    module _ (x : Checked) (after : List ℕ) (t : Tables) (l : Leaves x head room after t) (e : x ≡ checked.Accepted) where
-      abbrev left : Leaves checked.Accepted head room after t
-      left = subst (λ (x : Checked). Leaves x head room after t) e l
-
-      accepted-answer : (s : Style) → headOf head ≡ gives s → roomSize ≤ length room → length head ≤ 32768 → paintedOf bytes (length room) head number feature ≡ featured s number feature
+      pub refused-answer : refusal (r .line) (r .refusal) ≡ paintedOf bytes (length room) head number feature
       unfolding paintedOf
-      accepted-answer s h k n =
-          passed _ (by-room ∙ le-ltb (length room) roomSize k) (passed _ (le-ltb 32768 (length head) n) (ap (λ (h : Headed). headed h number feature) h))
+      refused-answer = sym (passed shortBuffer (le-ltb bytes leastBytes enough) (ap (λ x. onAccepted x (λ s. featured s number feature)) refused-style))
 
-      module _ (out : List ℕ) (size : bytes ≡ length out) (a : Answer) (out′ : List ℕ) (w : (a, out′) ≡ appliedOf head t after feature number out) where
-        given : _≡_ {A = Answer × List ℕ} (a, out′) (featured (left .0) number feature, outAfter (featured (left .0) number feature) number out)
+      pub refused-room : (after : List ℕ) → after ≡ treesAfter head room → after ≡ roomAfter bytes room
+      refused-room after h = h ∙ ap (λ (x : Answer Style). roomBy x head room) refused-style ∙ sym (passed room (le-ltb bytes leastBytes enough) refl)
+
+    -- one that is accepted
+    module _ (e : c ≡ checked.Accepted) where
+      ok : checkedOf (length room) head ≡ accepted tt
+      ok = sym is ∙ ap style.answerOf e
+
+      module _ (plan : List ℕ) (spans : List ℕ) (floats : List Float) (spans-size : length spans ≡ spansSize) (floats-size : length floats ≡ floatsSize) (out : List ℕ) (length-is : bytes ≡ length out) (answer : Answer Written)
+          (out′ trees planned : List ℕ) (left : trees ≡ treesAfter head room) (written : planned ≡ planAfter (length room) head plan)
+          (w : (answer, out′) ≡ appliedOf (source head feature trees planned) number out (spans, floats)) where
+        given : _≡_ {A = Answer Written × List ℕ} (answer, out′) (paintedOf bytes (length room) head number feature, outAfter (paintedOf bytes (length room) head number feature) number out)
         given =
             w
-            ∙ applied-is head feature after t (omega (arith, left .2, left .3, left .4)) (left .0) (length head + 1) (left .5) (accepted-stand head (left .0) (left .1)) number out (omega arith)
+            ∙ (λ i. appliedOf (source head feature (left i) (written i)) number out (spans, floats))
+            ∙ compiled-applied head room plan ok number feature (spans, floats) spans-size floats-size out (omega arith)
+            ∙ ap (λ (n : ℕ). (paintedOf n (length room) head number feature, outAfter (paintedOf n (length room) head number feature) number out)) (sym length-is)
 
-        pub painted-answer : a ≡ paintedOf bytes (length room) head number feature
-        painted-answer = ap (λ (p : Answer × List ℕ). p .0) given ∙ sym (accepted-answer (left .0) (left .1) (left .2) (left .3))
+        pub painted-answer : answer ≡ paintedOf bytes (length room) head number feature
+        painted-answer = ap (λ (x : Answer Written × List ℕ). x .0) given
 
-        pub painted-out : out′ ≡ outAfter a number out
-        painted-out = ap (λ (p : Answer × List ℕ). p .1) given ∙ ap (λ (a : Answer). outAfter a number out) (sym (ap (λ (p : Answer × List ℕ). p .0) given))
+        pub painted-out : out′ ≡ outAfter (answer) number out
+        painted-out = ap (λ (x : Answer Written × List ℕ). x .1) given ∙ ap (λ (x : Answer Written). outAfter x number out) (sym painted-answer)
 
-      pub painted-room : (room′ : List ℕ) → room′ ≡ replicate (length after) 0 → room′ ≡ roomAfter bytes room
-      painted-room room′ z =
+      pub painted-room : (trees room′ : List ℕ) → trees ≡ treesAfter head room → room′ ≡ replicate (length trees) 0 → room′ ≡ roomAfter bytes room
+      painted-room trees room′ left z =
           z
-          ∙ ap (λ (n : ℕ). replicate n 0) (left .4)
-          ∙ sym (passed _ (by-room ∙ le-ltb (length room) roomSize (left .2)) refl)
-
--- ---- what is printed
-
-module _ (a : Painted) (number : ℕ) (out : List ℕ) where
-  pub printed-painted : (show : Bool) (colouring : Colouring) (bytes : ℕ) → a ≡ painted.Painted show colouring bytes → (r : ℕ) → r ≡ min bytes (length out) →
-      ((out, r) ≡ printedBy (answerOf a) number out) × (r ≤ length out)
-  printed-painted show colouring bytes e r h = ((λ i. (out, h i)) ∙ ap (λ (a : Painted). printedBy (answerOf a) number out) (sym e), omega (arith, h))
-
-  pub printed-refused : (x : Refusal) → a ≡ painted.Refused x → (out′ : List ℕ) (r : ℕ) → (out′, r) ≡ front out (refusedFeature number (x .number) (x .place)) →
-      ((out′, r) ≡ printedBy (answerOf a) number out) × (r ≤ length out)
-  printed-refused x e out′ r h = (h ∙ ap (λ (a : Painted). printedBy (answerOf a) number out) (sym e), front-within _ _ h)
+          ∙ ap (λ (n : ℕ). replicate n 0) (ap length left ∙ size head room [] ok)
+          ∙ sym (passed room (le-ltb bytes leastBytes enough) (passed room (le-ltb (length room) roomSize (accepted-style (length room) head ok .3)) refl))

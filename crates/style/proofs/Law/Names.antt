@@ -1,4 +1,4 @@
--- The tables say of names what the style says: the kinds that a name stands for, and whether a name is new.
+-- The arrays say of names what the style says: the kinds that a name stands for, its number, and whether a name is new.
 use mathlib.Core.Path.{_≡_, refl, sym, _∙_, ap}
 use mathlib.Core.Bool.{Bool, true, false, cond, not, _&&_, _||_, false≢true}
 use mathlib.Core.List.{List, [], _∷_, map}
@@ -15,13 +15,13 @@ use Rattle.kind.specs.declared.kind.Kind.the-variants.{Undefined}
 use Rattle.kind.specs.declared.set.Kinds.{Kinds}
 use Rattle.checker.specs.Name.{rowAt, firstRow, propertyRow, rowIn, numberOf}
 use Rattle.checker.specs.Property.{undeclared, propertyKinds, setAt}
+use Rattle.plan.specs.Layout as layout
 use Rattle.checker.specs.declared.name.Scope.{Scope}
 use Rattle.checker.specs.declared.name.Scope.the-variants as scope
 use Rattle.text.specs.Name.{isName}
-use Rattle.style.specs.Style.{Declared, Style, isAmong, nameOf, defineName, propertyIn, definedIn, kindsIn}
-use Rattle.style.specs.Tables.{Each, Row, Free, Named}
+use Rattle.style.specs.Style.{Declared, Define, Style, isAmong, nameOf, defineName, propertyIn, definedIn, kindsIn, numberFrom, numberIn}
+use Rattle.style.specs.Holds.{Each, Few, Sets}
 use Rattle.style.specs.Inner.{Reads}
-use Rattle.style.specs.declared.tables.Tables.{Tables}
 
 pub through : {A B : Type 0} (f : A → B) (t : Bool) (a b : A) → f (cond t a b) ≡ cond t (f a) (f b)
 through f true a b = refl
@@ -101,37 +101,95 @@ pub same-none : (l : List ℕ) → 0 < length l → same [] l ≡ false
 same-none [] h = absurd (omega arith)
 same-none (y ∷ l) h = refl
 
+same-some : (x : List ℕ) → 0 < length x → same x [] ≡ false
+same-some [] h = absurd (omega arith)
+same-some (y ∷ x) h = refl
+
 -- whether a name stands in a row
-abbrev pub isIn : List ℕ → Tables → List ℕ → ℕ → Bool
-isIn head t x i = same x (rowAt head (t .starts) (t .ends) i)
+abbrev pub isIn : List ℕ → List ℕ → List ℕ → ℕ → Bool
+isIn head names x i = same x (rowAt head names i)
+
+-- a row has a name, which is not empty
+abbrev pub NameAt : List ℕ → List ℕ → ℕ → List ℕ → Type 0
+NameAt head names row name = (rowAt head names row ≡ name) × (0 < length name)
+
+-- where the names of a style lie; a row that is not used is empty
+pub record Named (head names : List ℕ) (s : Style) : Type 0 where
+  pub size : length names ≡ 96
+  pub properties : Each (λ i (d : Declared). NameAt head names i (d .name)) 0 (s .properties)
+  pub no-properties : (i : ℕ) → length (s .properties) ≤ i → i < 32 → rowAt head names i ≡ []
+  pub defines : Each (λ i (d : Define). NameAt head names (32 + i) (d .name)) 0 (s .defines)
+  pub no-defines : (i : ℕ) → length (s .defines) ≤ i → i < 16 → rowAt head names (32 + i) ≡ []
 
 -- some stand in the first of n rows from b on, each by its name and kinds, and the other rows are free
-record Rows {A : Type 0} (head : List ℕ) (t : Tables) (row : ℕ → ℕ) (b n : ℕ) (name : A → List ℕ) (kinds : A → Kinds) (xs : List A) : Type 0 where
+record Rows {A : Type 0} (head names plan : List ℕ) (row : ℕ → ℕ) (b n : ℕ) (name : A → List ℕ) (kinds : A → Kinds) (xs : List A) : Type 0 where
   at : (k : ℕ) → row k ≡ b + k
   few : length xs ≤ n
-  used : Each (λ i (a : A). Row head t (row i) (name a) (kinds a)) 0 xs
-  free : (i : ℕ) → length xs ≤ i → i < n → Free head t (row i)
+  used : Each (λ i (a : A). NameAt head names (row i) (name a)) 0 xs
+  sets : Each (λ i (a : A). setAt plan (row i) ≡ kinds a) 0 xs
+  free : (i : ℕ) → length xs ≤ i → i < n → rowAt head names (row i) ≡ []
+  none : (i : ℕ) → length xs ≤ i → i < n → setAt plan (row i) ≡ singleOf Undefined
 
-module _ {A : Type 0} {head : List ℕ} {t : Tables} {row : ℕ → ℕ} {b n : ℕ} {name : A → List ℕ} {kinds : A → Kinds} {xs : List A} (rows : Rows head t row b n name kinds xs) (x : List ℕ) where
+each-both : {A : Type 0} (P Q : ℕ → A → Type 0) (i : ℕ) (xs : List A) → Each P i xs → Each Q i xs → Each (λ i x. P i x × Q i x) i xs
+each-both P Q i [] p q = tt
+each-both P Q i (x ∷ xs) p q = ((p .0, q .0), each-both P Q (suc i) xs (p .1) (q .1))
+
+module _ {A : Type 0} {head names plan : List ℕ} {row : ℕ → ℕ} {b n : ℕ} {name : A → List ℕ} {kinds : A → Kinds} {xs : List A} (rows : Rows head names plan row b n name kinds xs) (x : List ℕ) where
   abbrev first : ℕ
-  first = firstRow (isIn head t x) n (row 0)
+  first = firstRow (isIn head names x) n (row 0)
 
   -- The set of a name's row is what r gives. An empty name is in the first free row.
   rows-kinds : (r : List A → Kinds) → ((a : A) (l : List A) → r (a ∷ l) ≡ cond (same x (name a)) (kinds a) (r l)) → (x ≡ [] → singleOf Undefined ≡ r []) →
-      cond (ltb first (b + n)) (setAt (t .sets) first) (r []) ≡ r xs
+      cond (ltb first (b + n)) (setAt plan first) (r []) ≡ r xs
   rows-kinds r step none =
-      seek (λ i (a : A). Row head t (row i) (name a) (kinds a)) row b n (length xs) (isIn head t x) (setAt (t .sets)) r (rows .at)
-      (λ k a l w. rw (w .is, w .set) (step a l))
-      (λ k h i e. let f = rows .free k h i in f .set ∙ none (same-eq x [] (rw (f .is) at e)))
-      n 0 xs (omega arith) (omega arith) (rows .few) (rows .used)
+      seek (λ i (a : A). NameAt head names (row i) (name a) × (setAt plan (row i) ≡ kinds a)) row b n (length xs) (isIn head names x) (setAt plan) r (rows .at)
+      (λ k a l w. rw (w .0 .0, w .1) (step a l))
+      (λ k h i e. rows .none k h i ∙ none (same-eq x [] (rw (rows .free k h i) at e)))
+      n 0 xs (omega arith) (omega arith) (rows .few)
+      (each-both (λ i (a : A). NameAt head names (row i) (name a)) (λ i (a : A). setAt plan (row i) ≡ kinds a) 0 xs (rows .used) (rows .sets))
 
   -- a name has one of the rows just if it is one of the names
   rows-among : isName x ≡ true → cond (ltb first (b + n)) true false ≡ isAmong (map name xs) x
   rows-among right =
-      seek (λ i (a : A). Row head t (row i) (name a) (kinds a)) row b n (length xs) (isIn head t x) (λ k. true) (λ l. isAmong (map name l) x) (rows .at)
-      (λ k a l w. rw (w .is))
-      (λ k h i e. absurd (false≢true (sym (name-some x right) ∙ (rw (rows .free k h i .is) at e))))
+      seek (λ i (a : A). NameAt head names (row i) (name a)) row b n (length xs) (isIn head names x) (λ k. true) (λ l. isAmong (map name l) x) (rows .at)
+      (λ k a l w. rw (w .0))
+      (λ k h i e. absurd (false≢true (sym (name-some x right) ∙ (rw (rows .free k h i) at e))))
       n 0 xs (omega arith) (omega arith) (rows .few) (rows .used)
+
+  -- and the number of a name that is not empty is its row's
+  module _ (some : 0 < length x) (other : ℕ) where
+    free-apart : (i : ℕ) → length xs ≤ i → i < n → isIn head names x (row i) ≡ false
+    free-apart i h k = ap (same x) (rows .free i h k) ∙ same-some x some
+
+    number-from : (m i : ℕ) (ys : List A) → i + m ≡ n → length xs ≤ i + length ys → length ys ≤ m → Each (λ i (a : A). NameAt head names (row i) (name a)) i ys →
+        cond (ltb (firstRow (isIn head names x) m (row i)) (b + n)) (firstRow (isIn head names x) m (row i)) other ≡ numberFrom (row i) (map name ys) other x
+    unfolding firstRow
+    number-from zero i [] h l few ps = ap (λ u. cond u (row i) other) (le-ltb (row i) (b + n) (omega (arith, rows .at i)))
+    number-from zero i (y ∷ ys) h l few ps = absurd (omega arith)
+    number-from (suc m) i [] h l few ps =
+        let e : suc (row i) ≡ row (suc i) = omega (arith, rows .at i, rows .at (suc i)) in
+        ap (λ (j : ℕ). cond (ltb j (b + n)) j other) (first-later (isIn head names x) m (row i) (free-apart i (omega arith) (omega arith)) ∙ ap (firstRow (isIn head names x) m) e)
+        ∙ number-from m (suc i) [] (omega arith) (omega arith) (omega arith) tt
+    number-from (suc m) i (y ∷ ys) h l few ps = go (same x (name y)) refl (number-from m (suc i) ys (omega arith) (omega arith) (omega arith) (ps .1))
+      where
+        next : suc (row i) ≡ row (suc i)
+        next = omega (arith, rows .at i, rows .at (suc i))
+
+        go : (u : Bool) → same x (name y) ≡ u →
+            (cond (ltb (firstRow (isIn head names x) m (row (suc i))) (b + n)) (firstRow (isIn head names x) m (row (suc i))) other
+            ≡ numberFrom (row (suc i)) (map name ys) other x) →
+            cond (ltb (firstRow (isIn head names x) (suc m) (row i)) (b + n)) (firstRow (isIn head names x) (suc m) (row i)) other
+            ≡ cond u (row i) (numberFrom (suc (row i)) (map name ys) other x)
+        go true q rest =
+            ap (λ (j : ℕ). cond (ltb j (b + n)) j other) (first-here (isIn head names x) m (row i) (ap (same x) (ps .0 .0) ∙ q))
+            ∙ ap (λ u. cond u (row i) other) (lt-ltb (row i) (b + n) (omega (arith, rows .at i)))
+        go false q rest =
+            ap (λ (j : ℕ). cond (ltb j (b + n)) j other) (first-later (isIn head names x) m (row i) (ap (same x) (ps .0 .0) ∙ q) ∙ ap (firstRow (isIn head names x) m) next)
+            ∙ rest
+            ∙ ap (λ (j : ℕ). numberFrom j (map name ys) other x) (sym next)
+
+    rows-number : cond (ltb first (b + n)) first other ≡ numberFrom (row 0) (map name xs) other x
+    rows-number = number-from n 0 xs (omega arith) (omega arith) (rows .few) (rows .used)
 
 -- ---- the numbers of names
 
@@ -160,45 +218,63 @@ define-new p = go (ltb (firstRow p 16 32) 48) refl
     go true e = rw (le-ltb (firstRow p 16 32) 32 (first-low p 16 32), lt-leb 48 (firstRow p 16 32) (ltb-true (firstRow p 16 32) 48 e))
     go false e = property-no-define p
 
--- ---- the tables
+-- ---- the arrays
 
-module _ (head : List ℕ) (t : Tables) (s : Style) (named : Named head t s) where
-  properties : Rows head t (λ k. k) 0 32 nameOf (λ d. propertyKinds (d .property)) (s .properties)
-  properties = record { at = λ k. omega arith; few = named .few-properties; used = named .properties; free = named .no-properties }
+module _ (head names plan : List ℕ) (s : Style) (few : Few s) (named : Named head names s) (sets : Sets plan s) where
+  properties : Rows head names plan (λ k. k) 0 32 nameOf (λ d. propertyKinds (d .property)) (s .properties)
+  properties = record {
+    at = λ k. omega arith;
+    few = few .properties;
+    used = named .properties;
+    sets = sets .properties;
+    free = named .no-properties;
+    none = sets .no-properties;
+  }
 
-  defines : Rows head t (λ k. 32 + k) 32 16 defineName (λ d. d .expression .kinds) (s .defines)
-  defines = record { at = λ k. refl; few = named .few-defines; used = named .defines; free = named .no-defines }
+  defines : Rows head names plan (λ k. 32 + k) 32 16 defineName (λ d. d .expression .kinds) (s .defines)
+  defines = record { at = λ k. refl; few = few .defines; used = named .defines; sets = sets .defines; free = named .no-defines; none = sets .no-defines }
 
   -- no property has an empty name
-  none-empty : (ds : List Declared) (i : ℕ) → Each (λ i (d : Declared). Row head t i (d .name) (propertyKinds (d .property))) i ds → propertyIn ds [] ≡ undeclared
+  none-empty : (ds : List Declared) (i : ℕ) → Each (λ i (d : Declared). NameAt head names i (d .name)) i ds → propertyIn ds [] ≡ undeclared
   none-empty [] i rs = refl
-  none-empty (d ∷ ds) i rs = rw (same-none (d .name) (rs .0 .some)) (none-empty ds (suc i) (rs .1))
+  none-empty (d ∷ ds) i rs = rw (same-none (d .name) (rs .0 .1)) (none-empty ds (suc i) (rs .1))
 
   empty-kinds : (x : List ℕ) → x ≡ [] → singleOf Undefined ≡ propertyKinds (propertyIn (s .properties) x)
   empty-kinds x e = sym (rw e (ap propertyKinds (none-empty (s .properties) 0 (named .properties))))
 
-  property-kinds : (x : List ℕ) → setAt (t .sets) (propertyRow (isIn head t x)) ≡ propertyKinds (propertyIn (s .properties) x)
+  property-kinds : (x : List ℕ) → setAt plan (propertyRow (isIn head names x)) ≡ propertyKinds (propertyIn (s .properties) x)
   unfolding propertyRow setAt
   property-kinds x =
-      let i = firstRow (isIn head t x) 32 0 in
-      through (setAt (t .sets)) (ltb i 32) i 48
+      let i = firstRow (isIn head names x) 32 0 in
+      through (setAt plan) (ltb i 32) i 48
       ∙ rows-kinds properties x (λ l. propertyKinds (propertyIn l x)) (λ d l. through propertyKinds (same x (d .name)) (d .property) (propertyIn l x)) (λ e. refl)
 
-  kinds-read : (c : Scope) (x : List ℕ) → setAt (t .sets) (numberOf c head (t .starts) (t .ends) x) ≡ kindsIn c s x
+  kinds-read : (c : Scope) (x : List ℕ) → setAt plan (numberOf c head names x) ≡ kindsIn c s x
   unfolding rowIn
   kinds-read scope.Define x = property-kinds x
   kinds-read scope.Style x =
-      let i = firstRow (isIn head t x) 16 32 in
-      through (setAt (t .sets)) (ltb i 48) i (propertyRow (isIn head t x))
-      ∙ ap (λ k. cond (ltb i 48) (setAt (t .sets) i) k) (property-kinds x)
+      let i = firstRow (isIn head names x) 16 32 in
+      through (setAt plan) (ltb i 48) i (propertyRow (isIn head names x))
+      ∙ ap (λ k. cond (ltb i 48) (setAt plan i) k) (property-kinds x)
       ∙ rows-kinds defines x (λ l. definedIn l x (propertyKinds (propertyIn (s .properties) x))) (λ d l. refl) (empty-kinds x)
 
-  -- what the tables of a head say of names is what its style says
-  pub reads : Reads head (t .starts) (t .ends) (t .sets) s
+  property-number : (x : List ℕ) → 0 < length x → propertyRow (isIn head names x) ≡ numberIn scope.Define s x
+  unfolding propertyRow
+  property-number x some = rows-number properties x some layout.undeclared
+
+  numbers-read : (c : Scope) (x : List ℕ) → 0 < length x → numberOf c head names x ≡ numberIn c s x
   unfolding rowIn
-  reads =
-      record {
-        kinds = kinds-read;
-        new-property = λ x. and-if (isName x) (λ e. property-new (isIn head t x) ∙ ap not (rows-among properties x e));
-        new-define = λ x. and-if (isName x) (λ e. define-new (isIn head t x) ∙ ap not (rows-among defines x e));
-      }
+  numbers-read scope.Define x some = property-number x some
+  numbers-read scope.Style x some =
+      let i = firstRow (isIn head names x) 16 32 in
+      ap (λ (k : ℕ). cond (ltb i 48) i k) (property-number x some) ∙ rows-number defines x some (numberIn scope.Define s x)
+
+  -- what the arrays of a head say of names is what its style says
+  pub reads : Reads head names plan s
+  unfolding rowIn
+  reads = record {
+    kinds = kinds-read;
+    numbers = numbers-read;
+    new-property = λ x. and-if (isName x) (λ e. property-new (isIn head names x) ∙ ap not (rows-among properties x e));
+    new-define = λ x. and-if (isName x) (λ e. define-new (isIn head names x) ∙ ap not (rows-among defines x e));
+  }

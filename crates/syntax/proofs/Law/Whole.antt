@@ -7,8 +7,10 @@ use native.Mathlib.Omega.{arith}
 use lib.Dec.{ltb}
 use lib.ListN.{length, take, drop, replicate}
 use borrow.Author.Tests.{ltb-true, ltb-false, lt-ltb, le-ltb, le-leb, lt-leb}
+use Rattle.lexer.specs.Refusal.{refusalAt, Judged, fine}
+use Rattle.lexer.specs.Refusal as judged
 use Rattle.lexer.specs.Scan.{scanOf}
-use Rattle.lexer.specs.declared.scan.Verdict.the-variants as scan
+use Rattle.lexer.specs.declared.refusal.Refusal.{Refusal}
 use Rattle.tree.specs.Tree.{Tree, place}
 use Rattle.tree.specs.Slots.{shapeOf, store}
 use Rattle.tree.specs.Node.{treeAt}
@@ -19,7 +21,7 @@ use Rattle.syntax.specs.Symbol.{symbolAt, end}
 use Rattle.syntax.specs.Parser.{Result, refused, expressionFrom, inText, stepsFor, parseOf}
 use Rattle.syntax.specs.Height.{heightOf}
 use Rattle.syntax.specs.Names.{unknownIn, leftmostOf}
-use Rattle.syntax.specs.Judge.{Judged, fine, refusal, byNames, byHeight, byGrammar, judgedOf, answered, answerOf, kept, slotsAfter}
+use Rattle.syntax.specs.Judge.{byNames, byHeight, byGrammar, judgedOf, rootOf, judgementOf, answerOf, kept, slotsAfter}
 use Rattle.syntax.specs.Inner.{Good, Agrees, ExpressionBy, WholeBy, namesJudged, treeJudged, Kept, JudgedBy}
 use Rattle.syntax.specs.declared.symbol.Symbol.{Symbol}
 use Rattle.syntax.specs.declared.names.Leftmost.{Leftmost}
@@ -67,12 +69,12 @@ module _ {text w v : List ℕ} {x : Symbol} {r : Parsed} (i : x ≡ symbolAt tex
 -- ---- the judgement on a tree
 
 module _ (text : List ℕ) (e : Tree) where
-  names-judged : (l : Leftmost) → namesJudged l (place e) ≡ answered (byNames l e)
+  names-judged : (l : Leftmost) → namesJudged l (place e) ≡ rootOf (byNames l e)
   names-judged (At p) = refl
   names-judged Nothing = refl
 
   -- it is the same on the tree as deep as is allowed
-  height-judged : (b : Bool) → ltb 64 (heightOf e) ≡ b → treeJudged text (place e) (pruned e 64) ≡ answered (byHeight b text e)
+  height-judged : (b : Bool) → ltb 64 (heightOf e) ≡ b → treeJudged text (place e) (pruned e 64) ≡ rootOf (byHeight b text e)
   height-judged true h = rw (lt-leb (heightOf (pruned e 64)) 64 (pruned-high e 64 (ltb-true 64 (heightOf e) h))) refl
   height-judged false h =
       let low = ltb-false 64 (heightOf e) h in
@@ -91,12 +93,12 @@ judged-alike : (text : List ℕ) {u v : List ℕ} {at p : ℕ} {t : Tree} → v 
 judged-alike text a b c = rw (a, b, c) refl
 
 module _ {text w v : List ℕ} {r : Parsed} (most : length text ≤ 1024) (room : length w ≡ length text) (h : WholeBy text w v r) where
-  pub grammar-bad : {y : Symbol} → length v ≡ length w → r ≡ parsed.Bad y → JudgedBy (byGrammar (parseOf text) text) w v (Refused 4 (y .at))
+  pub grammar-bad : {y : Symbol} → length v ≡ length w → r ≡ parsed.Bad y → JudgedBy (byGrammar (parseOf text) text) w v (Refused (refusalAt 4 (y .at)))
   grammar-bad {y} same e =
       let says : parseOf text ≡ refused y = subst (λ r. Agrees shapeOf w v r (parseOf text)) e (h .says) in
-      subst (λ a. JudgedBy (byGrammar a text) w v (Refused 4 (y .at))) (sym says) (record { answers = refl; keeps = same })
+      subst (λ a. JudgedBy (byGrammar a text) w v (Refused (refusalAt 4 (y .at)))) (sym says) (record { answers = refl; keeps = same })
 
-  pub grammar-goes : {at : ℕ} {y : Symbol} {j : Judgement} → r ≡ parsed.Tree at y → j ≡ treeJudged text at (treeAt 64 v at) → JudgedBy (byGrammar (parseOf text) text) w v j
+  pub grammar-goes : {at : ℕ} {y : Symbol} {j : Judgement} → r ≡ parsed.Tree at y → answerOf j ≡ treeJudged text at (treeAt 64 v at) → JudgedBy (byGrammar (parseOf text) text) w v j
   grammar-goes {at} {y} {j} e answer =
       let d : Good shapeOf w v at y (parseOf text) = subst (λ r. Agrees shapeOf w v r (parseOf text)) e (h .says) in
       let t = d .tree in
@@ -111,37 +113,37 @@ module _ {text w v : List ℕ} {r : Parsed} (most : length text ≤ 1024) (room 
 -- ---- the judgement on a text
 
 module _ (text : List ℕ) {w : List ℕ} where
-  pub size-over : 1024 < length text → JudgedBy (judgedOf text) w w (Refused 1 1024)
+  pub size-over : 1024 < length text → JudgedBy (judgedOf text) w w (Refused (refusalAt 1 1024))
   unfolding judgedOf
   size-over h = rw (lt-ltb 1024 (length text) h) (record { answers = refl; keeps = refl })
 
-  pub tokens-bad : {n p : ℕ} → length text ≤ 1024 → scanOf text ≡ scan.Refused n p → JudgedBy (judgedOf text) w w (Refused n p)
+  pub tokens-bad : {r : Refusal} → length text ≤ 1024 → scanOf text ≡ judged.refused r → JudgedBy (judgedOf text) w w (Refused r)
   unfolding judgedOf
   tokens-bad h e = rw (le-ltb 1024 (length text) h, e) (record { answers = refl; keeps = refl })
 
-  pub tokens-fine : {v : List ℕ} {r : Judgement} → length text ≤ 1024 → scanOf text ≡ scan.Fine → JudgedBy (byGrammar (parseOf text) text) w v r → JudgedBy (judgedOf text) w v r
+  pub tokens-fine : {v : List ℕ} {r : Judgement} → length text ≤ 1024 → scanOf text ≡ fine tt → JudgedBy (byGrammar (parseOf text) text) w v r → JudgedBy (judgedOf text) w v r
   unfolding judgedOf
   tokens-fine h e j = rw (le-ltb 1024 (length text) h, e) j
 
 -- ---- what the slots hold in the end
 
-abbrev isFine : Judgement → Bool
-isFine (Fine root) = true
-isFine (Refused n p) = false
+abbrev isFine : Judged ℕ → Bool
+isFine (fine root) = true
+isFine (judged.refused r) = false
 
 module _ {w v : List ℕ} {r : Judgement} where
-  pub kept-fine : {root : ℕ} (j : Judged) → JudgedBy j w v r → r ≡ Fine root → v ≡ kept j w
+  pub kept-fine : {root : ℕ} (j : Judged Tree) → JudgedBy j w v r → r ≡ Fine root → v ≡ kept j w
   kept-fine (fine e) h i = h .keeps
-  kept-fine (refusal n p) h i = absurd (false≢true (ap isFine (sym (h .answers) ∙ i)))
+  kept-fine (judged.refused q) h i = absurd (false≢true (ap isFine (sym (h .answers) ∙ ap answerOf i)))
 
-  pub kept-refused : {n p : ℕ} {u : List ℕ} (j : Judged) → JudgedBy j w v r → r ≡ Refused n p → u ≡ replicate (length v) 0 → u ≡ kept j w
-  kept-refused (fine e) h i z = absurd (false≢true (ap isFine (sym i ∙ h .answers)))
-  kept-refused (refusal n p) h i z = z ∙ ap (λ n. replicate n 0) (h .keeps)
+  pub kept-refused : {q : Refusal} {u : List ℕ} (j : Judged Tree) → JudgedBy j w v r → r ≡ Refused q → u ≡ replicate (length v) 0 → u ≡ kept j w
+  kept-refused (fine e) h i z = absurd (false≢true (ap isFine (sym (ap answerOf i) ∙ h .answers)))
+  kept-refused (judged.refused p) h i z = z ∙ ap (λ n. replicate n 0) (h .keeps)
 
 module _ (text w : List ℕ) where
-  pub room-short : length w < length text → (Refused 10 0 ≡ answerOf (length w) text) × (w ≡ slotsAfter w text)
+  pub room-short : length w < length text → (judged.refused (refusalAt 10 0) ≡ judgementOf (length w) text) × (w ≡ slotsAfter w text)
   room-short h = rw (lt-ltb (length w) (length text) h) (refl, refl)
 
-  pub room-enough : {r : Judgement} {v : List ℕ} → length text ≤ length w → r ≡ answered (judgedOf text) → v ≡ kept (judgedOf text) (take (length text) w) →
-      (r ≡ answerOf (length w) text) × (v ++ drop (length text) w ≡ slotsAfter w text)
+  pub room-enough : {a : Judged ℕ} {v : List ℕ} → length text ≤ length w → a ≡ rootOf (judgedOf text) → v ≡ kept (judgedOf text) (take (length text) w) →
+      (a ≡ judgementOf (length w) text) × (v ++ drop (length text) w ≡ slotsAfter w text)
   room-enough h i k = rw (le-ltb (length w) (length text) h) (i, ap (λ v. v ++ drop (length text) w) k)

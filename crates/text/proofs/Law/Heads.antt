@@ -1,34 +1,23 @@
 -- The head of an input, line by line.
 use mathlib.Core.Path.{_≡_, refl, sym, _∙_, ap}
-use mathlib.Core.Bool.{Bool, true, false, _&&_}
+use mathlib.Core.Bool.{Bool, true, false}
 use mathlib.Core.List.{List, [], _∷_}
 use Prim.Native.Nat.{ℕ, suc, _+_, _-_, _≤_, _<_, min}
 use native.Mathlib.Omega.{arith}
-use borrow.Author.Tests.{eqb-true, eqb-false}
-use lib.Dec.{eqb}
 use lib.ListN.{length, take, drop, drop-of-length-le}
 use lib.Seq.{slice, length-slice}
-use Rattle.lexer.specs.Bytes.{begins, same, ascii}
-use Rattle.lexer.proofs.Law.Runs.{word-same, word-other}
 use Rattle.lexer.proofs.Law.Spelling.{slice-is}
 use Rattle.text.specs.Parts.{lines, field, endFrom}
 use Rattle.text.specs.Head.{isFeature, beforeFeatures, headEnd}
 use Rattle.text.proofs.Law.Parts.{lines-from, end-from, end-within, from-first, here}
 
--- the first field, by where it ends and by the line's first bytes
+-- the first field, by where it ends
 module _ (line : List ℕ) (end : ℕ) (e : end ≡ endFrom 9 line 0) where
-  first-field : field line 0 ≡ take end line
+  pub first-field : field line 0 ≡ take end line
   first-field = rw e (here 9 line 0 0 (from-first 9 line))
 
-  inside-line : end ≤ length line
-  inside-line = rw e (end-within 9 line 0 (omega arith))
-
-  pub by-first-bytes : (t : Bool) → t ≡ begins (ascii "feat") line → (eqb end 4 && t) ≡ isFeature line
-  by-first-bytes t b = rw first-field (go (eqb end 4) refl)
-    where
-      go : (s : Bool) → eqb end 4 ≡ s → (s && t) ≡ same (take end line) (ascii "feat")
-      go true q = b ∙ word-same end line (ascii "feat") (eqb-true end 4 q) inside-line
-      go false q = word-other end line (ascii "feat") (eqb-false end 4 q) inside-line
+  pub first-inside : end ≤ length line
+  first-inside = rw e (end-within 9 line 0 (omega arith))
 
 -- the head ends where that of the lines from a place on does
 pub record On (input : List ℕ) (at : ℕ) : Type 0 where

@@ -6,8 +6,8 @@ use Rattle.checker.proofs.check.check.Tie as tie
 kinds-requires : tie.Need-kinds-requires
 kinds-requires c κs = search needs
 
-enum-known-place : tie.Need-enum-known-place
-enum-known-place c = search needs
+enum-known-refusal : tie.Need-enum-known-refusal
+enum-known-refusal c = search needs
 
 enum-known-set : tie.Need-enum-known-set
 enum-known-set c = search needs
@@ -18,8 +18,11 @@ taken-requires c κs = search needs
 is-within-requires : tie.Need-is-within-requires
 is-within-requires c κs = search needs
 
+wrong-at-requires : tie.Need-wrong-at-requires
+wrong-at-requires c κs = search needs
+
 returns : tie.Need-returns
-returns c = rw (← c .before .before .before .kinds .ensures, c .before .place .given .1)
+returns c = rw (← c .before .before .before .kinds .ensures, c .before .refusal .given .1)
 
 returns-2 : tie.Need-returns-2
 returns-2 c =
@@ -34,11 +37,12 @@ returns-2 c =
 returns-3 : tie.Need-returns-3
 returns-3 c =
     rw (
-      ← c .before .before .before .before .before .before .kinds .ensures,
-      c .before .before .before .before .set .given .1,
-      ← c .before .before .taken .ensures,
-      ← c .before .is-within .ensures,
-      c .if1 .left,
+      c .wrong-at .ensures,
+      ← c .before .before .before .before .before .before .before .kinds .ensures,
+      c .before .before .before .before .before .set .given .1,
+      ← c .before .before .before .taken .ensures,
+      ← c .before .before .is-within .ensures,
+      c .before .if1 .left,
     )
 
 pub check-spec : {M : Type 1} → statement M
@@ -46,10 +50,11 @@ check-spec =
     tie.close
     (tie.spec
     kinds-requires
-    enum-known-place
+    enum-known-refusal
     enum-known-set
     taken-requires
     is-within-requires
+    wrong-at-requires
     returns
     returns-2
     returns-3)

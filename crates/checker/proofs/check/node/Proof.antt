@@ -22,6 +22,9 @@ place-requires c κs = search needs
 enum-told : tie.Need-enum-told
 enum-told c = search needs
 
+wrong-at-requires : tie.Need-wrong-at-requires
+wrong-at-requires c κs = search needs
+
 returns : tie.Need-returns
 unfolding nodeBy
 returns c = rw (c .before .checks .given .1)
@@ -38,7 +41,7 @@ returns-2 c =
 
 returns-3 : tie.Need-returns-3
 unfolding nodeBy
-returns-3 c = rw (c .enum-told .given .1, c .before .before .before .checks2 .given .1)
+returns-3 c = rw (c .before .enum-told .given .1, c .before .before .before .before .checks2 .given .1, c .wrong-at .ensures)
 
 pub node-spec : {M : Type 1} → statement M
 node-spec =
@@ -50,6 +53,7 @@ node-spec =
     node-kinds-requires
     place-requires
     enum-told
+    wrong-at-requires
     returns
     returns-2
     returns-3)

@@ -10,11 +10,11 @@ use Rattle.checker.proofs.name.first_row.Statement.{statement}
 use Rattle.checker.proofs.name.first_row.Tie as tie
 
 abbrev Inv-loop : tie.InvT-loop
-Inv-loop head starts ends name from to row₀ row =
-    (row ≤ to) × (firstRow (λ i. same name (rowAt head starts ends i)) (to - row) row ≡ firstRow (λ i. same name (rowAt head starts ends i)) (to - from) from)
+Inv-loop head names name from to row₀ row =
+    (row ≤ to) × (firstRow (λ i. same name (rowAt head names i)) (to - row) row ≡ firstRow (λ i. same name (rowAt head names i)) (to - from) from)
 
 abbrev μ-loop : tie.MeasureT-loop
-μ-loop head starts ends name from to row₀ row = to - row
+μ-loop head names name from to row₀ row = to - row
 
 loop-holds : tie.Need-loop-holds Inv-loop μ-loop
 loop-holds c = (omega arith, refl)

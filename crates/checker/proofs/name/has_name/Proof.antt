@@ -1,4 +1,4 @@
--- `has_name` compares the whole name with the row's.
+-- `has_name` compares the whole name with the one in the head.
 use borrow.Author.Needs.{needs}
 use Rattle.checker.proofs.Law.Names.{whole-name}
 use Rattle.checker.proofs.name.has_name.Statement.{statement}
@@ -7,11 +7,20 @@ use Rattle.checker.proofs.name.has_name.Tie as tie
 mul-same-part : tie.Need-mul-same-part
 mul-same-part c = search needs
 
+mul-same-part-2 : tie.Need-mul-same-part-2
+mul-same-part-2 c = search needs
+
 element-copy-out-same-part : tie.Need-element-copy-out-same-part
 element-copy-out-same-part c = search needs
 
-mul-same-part-2 : tie.Need-mul-same-part-2
-mul-same-part-2 c = search needs
+mul-same-part-3 : tie.Need-mul-same-part-3
+mul-same-part-3 c = search needs
+
+add-same-part : tie.Need-add-same-part
+add-same-part c = search needs
+
+mul-same-part-4 : tie.Need-mul-same-part-4
+mul-same-part-4 c = search needs
 
 element-copy-out-same-part-2 : tie.Need-element-copy-out-same-part-2
 element-copy-out-same-part-2 c = search needs
@@ -27,8 +36,11 @@ has-name-spec =
     tie.close
     (tie.spec
     mul-same-part
-    element-copy-out-same-part
     mul-same-part-2
+    element-copy-out-same-part
+    mul-same-part-3
+    add-same-part
+    mul-same-part-4
     element-copy-out-same-part-2
     same-part-requires
     returns)

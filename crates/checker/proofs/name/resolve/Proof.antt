@@ -4,15 +4,15 @@ use native.Mathlib.Omega.{arith}
 use borrow.Author.Needs.{needs}
 use lib.ListN.{length}
 use Rattle.checker.specs.Name.{numberOf}
-use Rattle.checker.proofs.Law.Names.{found-ahead, found-stands, Resolving, resolving, resolving-on, resolved-bad, resolved-end}
+use Rattle.checker.proofs.Law.Names.{found-ahead, found-variable, Resolving, resolving, resolving-variable, resolving-other, resolved-bad, resolved-end}
 use Rattle.checker.proofs.name.resolve.Statement.{statement}
 use Rattle.checker.proofs.name.resolve.Tie as tie
 
 abbrev Inv-loop : tie.InvT-loop
-Inv-loop scope head starts ends text slots₀ from₀ slots from = Resolving (numberOf scope head starts ends) text slots₀ slots from
+Inv-loop scope head names text slots₀ from₀ slots from = Resolving (numberOf scope head names) text slots₀ slots from
 
 abbrev μ-loop : tie.MeasureT-loop
-μ-loop scope head starts ends text slots₀ from₀ slots from = length text - from
+μ-loop scope head names text slots₀ from₀ slots from = length text - from
 
 loop-holds : tie.Need-loop-holds Inv-loop μ-loop
 loop-holds c = resolving _ _ _
@@ -23,15 +23,29 @@ token-at-requires c κs = search needs
 enum-known-token : tie.Need-enum-known-token Inv-loop μ-loop
 enum-known-token c = search needs
 
-number-token-requires : tie.Need-number-token-requires Inv-loop μ-loop
-number-token-requires c κs = found-stands _ _ _ (c .before .before .before .before .token-at .ensures) _ _ _ (c .before .before .token .given .1)
+is-variable-requires : tie.Need-is-variable-requires Inv-loop μ-loop
+is-variable-requires c κs = search needs
+
+number-variable-requires : tie.Need-number-variable-requires Inv-loop μ-loop
+number-variable-requires c κs =
+    found-variable _ _ _ (c .before .before .before .before .before .before .token-at .ensures) _ _ _ (c .before .before .before .before .token .given .1) _ (c .before .before .is-variable .ensures) (c .before .if1 .taken)
 
 loop-less : tie.Need-loop-less Inv-loop μ-loop
 loop-less c =
-    let a = found-ahead _ (c .before .before .before .before .before .before .before .before .loop .from) _ (c .before .before .before .before .before .before .before .token-at .ensures) _ _ _ (c .before .before .before .before .before .token .given .1) in omega (arith, a)
+    let a = found-ahead _ (c .before .before .before .before .before .before .before .before .before .before .loop .from) _ (c .before .before .before .before .before .before .before .before .before .token-at .ensures) _ _ _ (c .before .before .before .before .before .before .before .token .given .1) in omega (arith, a)
 
 loop-again : tie.Need-loop-again Inv-loop μ-loop
-loop-again c = resolving-on _ _ _ _ _ (c .before .before .before .before .before .before .before .before .loop .inv) _ (c .before .before .before .before .before .before .before .token-at .ensures) _ _ _ _ (c .before .before .before .before .before .token .given .1) (c .before .before .number-token .ensures) (c .before .before .number-token .kept .1 .1 .1 .1 .1 .1 .1 .1 .0)
+loop-again c =
+    resolving-variable _ _ _ _ _ (c .before .before .before .before .before .before .before .before .before .before .loop .inv) _ (c .before .before .before .before .before .before .before .before .before .token-at .ensures) _ _ _ (c .before .before .before .before .before .before .before .token .given .1)
+    _ (c .before .before .before .before .before .is-variable .ensures) (c .before .before .before .before .if1 .taken) _ (c .before .before .number-variable .ensures) (c .before .before .number-variable .kept .1 .1 .1 .1 .1 .1 .0)
+
+loop-less-2 : tie.Need-loop-less-2 Inv-loop μ-loop
+loop-less-2 c =
+    let a = found-ahead _ (c .before .before .before .before .before .before .loop .from) _ (c .before .before .before .before .before .token-at .ensures) _ _ _ (c .before .before .before .token .given .1) in omega (arith, a)
+
+loop-again-2 : tie.Need-loop-again-2 Inv-loop μ-loop
+loop-again-2 c =
+    resolving-other _ _ _ _ _ (c .before .before .before .before .before .before .loop .inv) _ (c .before .before .before .before .before .token-at .ensures) _ _ _ (c .before .before .before .token .given .1) _ (c .before .is-variable .ensures) (c .if1 .left)
 
 enum-told : tie.Need-enum-told Inv-loop μ-loop
 enum-told c = search needs
@@ -60,9 +74,12 @@ resolve-spec =
     loop-holds
     token-at-requires
     enum-known-token
-    number-token-requires
+    is-variable-requires
+    number-variable-requires
     loop-less
     loop-again
+    loop-less-2
+    loop-again-2
     enum-told
     same-length
     returns

@@ -2,13 +2,14 @@
 use native.Mathlib.Numerals.{towards-suc}
 use borrow.Author.Needs.{needs}
 use borrow.Author.Tests.{le-leb, lt-leb}
-use Rattle.evaluator.specs.Values.{storedRows, storedFloats}
+use Rattle.plan.specs.Layout.{undeclared}
+use Rattle.evaluator.specs.Values.{storedSpans, storedFloats}
 use Rattle.evaluator.proofs.values.store.Statement.{statement}
 use Rattle.evaluator.proofs.values.store.Tie as tie
 
 returns : tie.Need-returns
-unfolding storedRows storedFloats
-returns c = let e = le-leb 48 _ (c .if1 .taken) in (rw e, rw e)
+unfolding storedSpans storedFloats
+returns c = let e = le-leb undeclared _ (c .if1 .taken) in (rw e, rw e)
 
 mul-p : tie.Need-mul-p
 mul-p c = search needs
@@ -16,38 +17,38 @@ mul-p c = search needs
 mul-i : tie.Need-mul-i
 mul-i c = search needs
 
-row-kind-requires : tie.Need-row-kind-requires
-row-kind-requires c κs = search needs
+span-kind-requires : tie.Need-span-kind-requires
+span-kind-requires c κs = search needs
 
-mul-rows : tie.Need-mul-rows
-mul-rows c = search needs
+mul-spans : tie.Need-mul-spans
+mul-spans c = search needs
 
-element-write-rows : tie.Need-element-write-rows
-element-write-rows c = search needs
+element-write-spans : tie.Need-element-write-spans
+element-write-spans c = search needs
 
-row-start-requires : tie.Need-row-start-requires
-row-start-requires c κs = search needs
+span-start-requires : tie.Need-span-start-requires
+span-start-requires c κs = search needs
 
-add-rows : tie.Need-add-rows
-add-rows c = search needs
+add-spans : tie.Need-add-spans
+add-spans c = search needs
 
-mul-rows-2 : tie.Need-mul-rows-2
-mul-rows-2 c = search needs
+mul-spans-2 : tie.Need-mul-spans-2
+mul-spans-2 c = search needs
 
-element-write-rows-2 : tie.Need-element-write-rows-2
-element-write-rows-2 c = search needs
+element-write-spans-2 : tie.Need-element-write-spans-2
+element-write-spans-2 c = search needs
 
-row-end-requires : tie.Need-row-end-requires
-row-end-requires c κs = search needs
+span-end-requires : tie.Need-span-end-requires
+span-end-requires c κs = search needs
 
-add-rows-2 : tie.Need-add-rows-2
-add-rows-2 c = search needs
+add-spans-2 : tie.Need-add-spans-2
+add-spans-2 c = search needs
 
-mul-rows-3 : tie.Need-mul-rows-3
-mul-rows-3 c = search needs
+mul-spans-3 : tie.Need-mul-spans-3
+mul-spans-3 c = search needs
 
-element-write-rows-3 : tie.Need-element-write-rows-3
-element-write-rows-3 c = search needs
+element-write-spans-3 : tie.Need-element-write-spans-3
+element-write-spans-3 c = search needs
 
 component-requires : tie.Need-component-requires
 component-requires c κs = search needs
@@ -95,10 +96,10 @@ element-write-floats-4 : tie.Need-element-write-floats-4
 element-write-floats-4 c = search needs
 
 returns-2 : tie.Need-returns-2
-unfolding storedRows storedFloats
+unfolding storedSpans storedFloats
 returns-2 c =
-    let e = lt-leb 48 _ (c .before .before .before .before .before .before .before .if1 .left) in (
-      rw (e, c .before .before .before .before .row-end .ensures, c .before .before .before .before .before .row-start .ensures, c .before .before .before .before .before .before .row-kind .ensures) (simp towards-suc),
+    let e = lt-leb undeclared _ (c .before .before .before .before .before .before .before .if1 .left) in (
+      rw (e, c .before .before .before .before .span-end .ensures, c .before .before .before .before .before .span-start .ensures, c .before .before .before .before .before .before .span-kind .ensures) (simp towards-suc),
       rw (e, c .component4 .ensures, c .before .component3 .ensures, c .before .before .component2 .ensures, c .before .before .before .component .ensures) (simp towards-suc),
     )
 
@@ -109,17 +110,17 @@ store-spec =
     returns
     mul-p
     mul-i
-    row-kind-requires
-    mul-rows
-    element-write-rows
-    row-start-requires
-    add-rows
-    mul-rows-2
-    element-write-rows-2
-    row-end-requires
-    add-rows-2
-    mul-rows-3
-    element-write-rows-3
+    span-kind-requires
+    mul-spans
+    element-write-spans
+    span-start-requires
+    add-spans
+    mul-spans-2
+    element-write-spans-2
+    span-end-requires
+    add-spans-2
+    mul-spans-3
+    element-write-spans-3
     component-requires
     mul-floats
     element-write-floats

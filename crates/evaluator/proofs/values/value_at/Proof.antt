@@ -1,13 +1,14 @@
 -- `value_at` is the definition, kind by kind.
 use borrow.Author.Needs.{needs}
 use borrow.Author.Tests.{le-leb, lt-leb, ne-eqb}
+use Rattle.plan.specs.Layout.{undeclared}
 use Rattle.evaluator.specs.Values.{valueAt}
 use Rattle.evaluator.proofs.values.value_at.Statement.{statement}
 use Rattle.evaluator.proofs.values.value_at.Tie as tie
 
 returns : tie.Need-returns
 unfolding valueAt
-returns c = rw (le-leb 48 _ (c .if1 .taken))
+returns c = rw (le-leb undeclared _ (c .if1 .taken))
 
 mul-p : tie.Need-mul-p
 mul-p c = search needs
@@ -146,42 +147,42 @@ element-copy-out-t85 c = search needs
 
 returns-2 : tie.Need-returns-2
 unfolding valueAt
-returns-2 c = rw (lt-leb 48 _ (c .before .before .if1 .left), c .match .keys1)
+returns-2 c = rw (lt-leb undeclared _ (c .before .before .if1 .left), c .match .keys1)
 
 returns-3 : tie.Need-returns-3
 unfolding valueAt
-returns-3 c = rw (lt-leb 48 _ (c .before .before .before .if1 .left), c .before .match .keys2)
+returns-3 c = rw (lt-leb undeclared _ (c .before .before .before .if1 .left), c .before .match .keys2)
 
 returns-4 : tie.Need-returns-4
 unfolding valueAt
-returns-4 c = rw (lt-leb 48 _ (c .before .before .before .if1 .left), c .before .match .keys3)
+returns-4 c = rw (lt-leb undeclared _ (c .before .before .before .if1 .left), c .before .match .keys3)
 
 returns-5 : tie.Need-returns-5
 unfolding valueAt
-returns-5 c = rw (lt-leb 48 _ (c .before .before .before .before .if1 .left), c .before .before .match .keys4)
+returns-5 c = rw (lt-leb undeclared _ (c .before .before .before .before .if1 .left), c .before .before .match .keys4)
 
 returns-6 : tie.Need-returns-6
 unfolding valueAt
-returns-6 c = rw (lt-leb 48 _ (c .before .before .before .before .if1 .left), c .before .before .match .keys5)
+returns-6 c = rw (lt-leb undeclared _ (c .before .before .before .before .if1 .left), c .before .before .match .keys5)
 
 returns-7 : tie.Need-returns-7
 unfolding valueAt
-returns-7 c = rw (lt-leb 48 _ (c .before .before .before .before .before .if1 .left), c .before .before .before .match .keys6)
+returns-7 c = rw (lt-leb undeclared _ (c .before .before .before .before .before .if1 .left), c .before .before .before .match .keys6)
 
 returns-8 : tie.Need-returns-8
 unfolding valueAt
-returns-8 c = rw (lt-leb 48 _ (c .before .before .before .before .before .before .if1 .left), c .before .before .before .before .match .keys7)
+returns-8 c = rw (lt-leb undeclared _ (c .before .before .before .before .before .before .if1 .left), c .before .before .before .before .match .keys7)
 
 returns-9 : tie.Need-returns-9
 unfolding valueAt
-returns-9 c = rw (lt-leb 48 _ (c .before .before .before .before .if1 .left), c .before .before .match .keys8)
+returns-9 c = rw (lt-leb undeclared _ (c .before .before .before .before .if1 .left), c .before .before .match .keys8)
 
 returns-10 : tie.Need-returns-10
 unfolding valueAt
 returns-10 c =
     let s = c .match .rest in
     rw (
-      lt-leb 48 _ (c .before .before .if1 .left),
+      lt-leb undeclared _ (c .before .before .if1 .left),
       ne-eqb _ 1 (s .0 .0 .0 .0 .0 .0 .0 .1),
       ne-eqb _ 2 (s .0 .0 .0 .0 .0 .0 .1),
       ne-eqb _ 3 (s .0 .0 .0 .0 .0 .1),

@@ -6,10 +6,10 @@ use Rattle.evaluator_cases.proofs.feature.read_parts.Statement.{stateme
 use Rattle.evaluator_cases.proofs.feature.read_parts.Tie as tie
 
 abbrev Inv-loop : tie.InvT-loop
-Inv-loop fd count rows₀ floats₀ counter₀ rows floats counter = Unit {0}
+Inv-loop fd count spans₀ floats₀ counter₀ spans floats counter = Unit {0}
 
 abbrev μ-loop : tie.MeasureT-loop
-μ-loop fd count rows₀ floats₀ counter₀ rows floats counter = count - counter
+μ-loop fd count spans₀ floats₀ counter₀ spans floats counter = count - counter
 
 loop-holds : tie.Need-loop-holds Inv-loop μ-loop
 loop-holds c = search needs

@@ -6,10 +6,10 @@ use Rattle.evaluator_cases.proofs.names.read.Statement.{statement}
 use Rattle.evaluator_cases.proofs.names.read.Tie as tie
 
 abbrev Inv-loop : tie.InvT-loop
-Inv-loop fd count starts₀ ends₀ sets₀ counter₀ starts ends sets counter = Unit {0}
+Inv-loop fd count names₀ plan₀ counter₀ names plan counter = Unit {0}
 
 abbrev μ-loop : tie.MeasureT-loop
-μ-loop fd count starts₀ ends₀ sets₀ counter₀ starts ends sets counter = count - counter
+μ-loop fd count names₀ plan₀ counter₀ names plan counter = count - counter
 
 loop-holds : tie.Need-loop-holds Inv-loop μ-loop
 loop-holds c = search needs

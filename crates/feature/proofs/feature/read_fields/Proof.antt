@@ -10,11 +10,11 @@ use Rattle.text.proofs.Law.Parts.{some-part, end-from, end-within}
 use Rattle.feature.proofs.Law.Lines.{Sofar, other-count, fields-start, at-field, field-wrong, field-stored, all-stored}
 
 abbrev Inv-loop : tie.InvT-loop
-Inv-loop sets properties line word rows₀ floats₀ at₀ i₀ rows floats at i =
-    Sofar sets properties line rows₀ floats₀ rows floats at i
+Inv-loop plan properties line spans₀ floats₀ at₀ i₀ spans floats at i =
+    Sofar plan properties line spans₀ floats₀ spans floats at i
 
 abbrev μ-loop : tie.MeasureT-loop
-μ-loop sets properties line word rows₀ floats₀ at₀ i₀ rows floats at i =
+μ-loop plan properties line spans₀ floats₀ at₀ i₀ spans floats at i =
     properties - i
 
 count-requires : tie.Need-count-requires Inv-loop μ-loop
@@ -24,20 +24,26 @@ sub-if1 : tie.Need-sub-if1 Inv-loop μ-loop
 sub-if1 c =
     omega (arith, c .count .ensures, some-part 9 (c .before .before .args .line .now))
 
+refused-requires : tie.Need-refused-requires Inv-loop μ-loop
+refused-requires c κs = search needs
+
 returns : tie.Need-returns Inv-loop μ-loop
 returns c =
-    other-count _ _ _ _ _ _ (c .before .count .ensures) (c .if1 .taken)
-
-add-at : tie.Need-add-at Inv-loop μ-loop
-add-at c =
-    omega (arith, c .before .before .before .pre .0, c .before .before .before .pre .1, end-within 9 (c .before .before .before .args .line .now) 0 (omega arith))
-
-loop-holds : tie.Need-loop-holds Inv-loop μ-loop
-loop-holds c =
-    fields-start _ _ _ _ _ (c .before .count .ensures) (c .if1 .left) (c .before .before .before .pre .1) _ _
+    rw (c .refused .ensures) (other-count _ _ _ _ _ _ (c .before .before .count .ensures) (c .before .if1 .taken))
 
 end-requires : tie.Need-end-requires Inv-loop μ-loop
 end-requires c κs = search needs
+
+add-at : tie.Need-add-at Inv-loop μ-loop
+add-at c =
+    omega (arith, c .before .before .before .before .pre, c .end .ensures, end-within 9 (c .before .before .before .before .args .line .now) 0 (omega arith))
+
+loop-holds : tie.Need-loop-holds Inv-loop μ-loop
+loop-holds c =
+    fields-start _ _ _ _ _ (c .before .before .count .ensures) (c .before .if1 .left) (c .end .ensures) _ _
+
+end-requires-2 : tie.Need-end-requires-2 Inv-loop μ-loop
+end-requires-2 c κs = search needs
 
 set-at-requires : tie.Need-set-at-requires Inv-loop μ-loop
 set-at-requires c κs = search needs
@@ -45,8 +51,8 @@ set-at-requires c κs = search needs
 read-requires : tie.Need-read-requires Inv-loop μ-loop
 read-requires c κs =
     let h = at-field _ _ _ _ _ _ _ _ _ (c .before .before .before .loop .inv) (c .before .before .loop-test .taken) in
-    let line = c .before .before .before .before .before .before .before .args .line .now in
-    (omega (arith, c .before .end .ensures, end-from 9 line (c .before .before .before .loop .at)), omega (arith, c .before .end .ensures, end-within 9 line (c .before .before .before .loop .at) h))
+    let line = c .before .before .before .before .before .before .before .before .args .line .now in
+    (omega (arith, c .before .end2 .ensures, end-from 9 line (c .before .before .before .loop .at)), omega (arith, c .before .end2 .ensures, end-within 9 line (c .before .before .before .loop .at) h))
 
 conforming-requires : tie.Need-conforming-requires Inv-loop μ-loop
 conforming-requires c κs = search needs
@@ -54,9 +60,12 @@ conforming-requires c κs = search needs
 enum-told : tie.Need-enum-told Inv-loop μ-loop
 enum-told c = search needs
 
+refused-requires-2 : tie.Need-refused-requires-2 Inv-loop μ-loop
+refused-requires-2 c κs = search needs
+
 returns-2 : tie.Need-returns-2 Inv-loop μ-loop
 returns-2 c =
-    field-wrong _ _ _ _ _ _ _ _ _ (c .before .before .before .before .before .before .before .loop .inv) _ _ (c .before .before .before .before .before .before .loop-test .taken) (c .before .before .before .before .before .end .ensures) (c .before .before .conforming .ensures ∙ ap₂ conformed (c .before .before .before .before .set-at .ensures) (c .before .before .before .read .ensures)) (c .enum-told .given .1)
+    rw (c .refused2 .ensures) (field-wrong _ _ _ _ _ _ _ _ _ (c .before .before .before .before .before .before .before .before .loop .inv) _ _ (c .before .before .before .before .before .before .before .loop-test .taken) (c .before .before .before .before .before .before .end2 .ensures) (c .before .before .before .conforming .ensures ∙ ap₂ conformed (c .before .before .before .before .before .set-at .ensures) (c .before .before .before .before .read .ensures)) (c .before .enum-told .given .1))
 
 enum-known-value : tie.Need-enum-known-value Inv-loop μ-loop
 enum-known-value c = search needs
@@ -66,7 +75,7 @@ store-requires c κs = search needs
 
 add-at-2 : tie.Need-add-at-2 Inv-loop μ-loop
 add-at-2 c =
-    omega (arith, c .before .before .before .before .before .before .before .before .before .before .before .before .before .before .before .pre .0, c .before .before .before .before .before .before .before .before .before .end .ensures, end-within 9 (c .before .before .before .before .before .before .before .before .before .before .before .before .before .before .before .args .line .now) (c .before .before .before .before .before .before .before .before .before .before .before .loop .at) (at-field _ _ _ _ _ _ _ _ _ (c .before .before .before .before .before .before .before .before .before .before .before .loop .inv) (c .before .before .before .before .before .before .before .before .before .before .loop-test .taken)))
+    omega (arith, c .before .before .before .before .before .before .before .before .before .before .before .before .before .before .before .before .pre, c .before .before .before .before .before .before .before .before .before .end2 .ensures, end-within 9 (c .before .before .before .before .before .before .before .before .before .before .before .before .before .before .before .before .args .line .now) (c .before .before .before .before .before .before .before .before .before .before .before .loop .at) (at-field _ _ _ _ _ _ _ _ _ (c .before .before .before .before .before .before .before .before .before .before .before .loop .inv) (c .before .before .before .before .before .before .before .before .before .before .loop-test .taken)))
 
 add-i : tie.Need-add-i Inv-loop μ-loop
 add-i c = search needs
@@ -76,7 +85,7 @@ loop-less c = search needs
 
 loop-again : tie.Need-loop-again Inv-loop μ-loop
 loop-again c =
-    field-stored _ _ _ _ _ _ _ _ _ (c .before .before .before .before .before .before .before .before .before .before .before .loop .inv) _ _ (c .before .before .before .before .before .before .before .before .before .before .loop-test .taken) (c .before .before .before .before .before .before .before .before .before .end .ensures) (c .before .before .before .before .before .before .conforming .ensures ∙ ap₂ conformed (c .before .before .before .before .before .before .before .before .set-at .ensures) (c .before .before .before .before .before .before .before .read .ensures)) _ _ _ (c .before .before .before .before .value .given .1) (c .store .ensures .0) (c .store .ensures .1)
+    field-stored _ _ _ _ _ _ _ _ _ (c .before .before .before .before .before .before .before .before .before .before .before .loop .inv) _ _ (c .before .before .before .before .before .before .before .before .before .before .loop-test .taken) (c .before .before .before .before .before .before .before .before .before .end2 .ensures) (c .before .before .before .before .before .before .conforming .ensures ∙ ap₂ conformed (c .before .before .before .before .before .before .before .before .set-at .ensures) (c .before .before .before .before .before .before .before .read .ensures)) _ _ _ (c .before .before .before .before .value .given .1) (c .store .ensures .0) (c .store .ensures .1)
 
 returns-3 : tie.Need-returns-3 Inv-loop μ-loop
 returns-3 c =
@@ -90,14 +99,17 @@ read-fields-spec =
     μ-loop
     count-requires
     sub-if1
+    refused-requires
     returns
+    end-requires
     add-at
     loop-holds
-    end-requires
+    end-requires-2
     set-at-requires
     read-requires
     conforming-requires
     enum-told
+    refused-requires-2
     returns-2
     enum-known-value
     store-requires

@@ -7,11 +7,14 @@ use borrow.Author.Needs.{needs}
 use Rattle.head_cases.proofs.expressions.shown_agrees.Statement.{statement}
 use Rattle.head_cases.proofs.expressions.shown_agrees.Tie as tie
 
+slice-aggregate-tree : tie.Need-slice-aggregate-tree
+slice-aggregate-tree c = search needs
+
 tree-requires : tie.Need-tree-requires
 tree-requires c κs = search needs
 
-slice-reshare-prefix-page-agrees : tie.Need-slice-reshare-prefix-page-agrees
-slice-reshare-prefix-page-agrees c = search needs
+array-share-prefix-page : tie.Need-array-share-prefix-page
+array-share-prefix-page c = search needs
 
 slice-aggregate-page-agrees : tie.Need-slice-aggregate-page-agrees
 slice-aggregate-page-agrees c =
@@ -19,9 +22,6 @@ slice-aggregate-page-agrees c =
 
 page-agrees-requires : tie.Need-page-agrees-requires
 page-agrees-requires c κs = search needs
-
-same-length : tie.Need-same-length
-same-length c = search needs
 
 returns : tie.Need-returns
 returns c = search needs
@@ -35,9 +35,6 @@ slice-aggregate-text c = search needs
 text-requires : tie.Need-text-requires
 text-requires c κs = search needs
 
-same-length-2 : tie.Need-same-length-2
-same-length-2 c = search needs
-
 returns-2 : tie.Need-returns-2
 returns-2 c = search needs
 
@@ -45,14 +42,13 @@ pub shown-agrees-spec : {M : Type 1} → statement M
 shown-agrees-spec =
     tie.close
     (tie.spec
+    slice-aggregate-tree
     tree-requires
-    slice-reshare-prefix-page-agrees
+    array-share-prefix-page
     slice-aggregate-page-agrees
     page-agrees-requires
-    same-length
     returns
     text-difference-requires
     slice-aggregate-text
     text-requires
-    same-length-2
     returns-2)

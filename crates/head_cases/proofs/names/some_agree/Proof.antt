@@ -6,10 +6,10 @@ use Rattle.head_cases.proofs.names.some_agree.Statement.{statement}
 use Rattle.head_cases.proofs.names.some_agree.Tie as tie
 
 abbrev Inv-loop : tie.InvT-loop
-Inv-loop fd name line head tables count same₀ counter₀ same counter = Unit {0}
+Inv-loop fd name line head plan count same₀ counter₀ same counter = Unit {0}
 
 abbrev μ-loop : tie.MeasureT-loop
-μ-loop fd name line head tables count same₀ counter₀ same counter = count - counter
+μ-loop fd name line head plan count same₀ counter₀ same counter = count - counter
 
 loop-holds : tie.Need-loop-holds Inv-loop μ-loop
 loop-holds c = search needs

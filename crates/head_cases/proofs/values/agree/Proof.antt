@@ -6,10 +6,10 @@ use Rattle.head_cases.proofs.values.agree.Statement.{statement}
 use Rattle.head_cases.proofs.values.agree.Tie as tie
 
 abbrev Inv-loop : tie.InvT-loop
-Inv-loop fd name line feature rows floats same₀ counter₀ end same counter = Unit {0}
+Inv-loop fd name line feature spans floats same₀ counter₀ end same counter = Unit {0}
 
 abbrev μ-loop : tie.MeasureT-loop
-μ-loop fd name line feature rows floats same₀ counter₀ end same counter = end - counter
+μ-loop fd name line feature spans floats same₀ counter₀ end same counter = end - counter
 
 number-requires : tie.Need-number-requires Inv-loop μ-loop
 number-requires c κs = search needs

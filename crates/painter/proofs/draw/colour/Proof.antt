@@ -1,11 +1,11 @@
 -- `colour`: the row's value, as a colour, clamped.
-use mathlib.Core.Path.{_∙_, ap}
-use Rattle.colour.specs.Colour.{clampedOf}
-use Rattle.value.specs.Value.{colourIn}
-use Rattle.output.specs.declared.line.Colouring.the-variants.{Of}
 use borrow.Author.Needs.{needs}
 use Rattle.painter.proofs.draw.colour.Statement.{statement}
 use Rattle.painter.proofs.draw.colour.Tie as tie
+use mathlib.Core.Path.{_∙_, ap}
+use Rattle.colour.specs.Colour.{clampedOf}
+use Rattle.value.specs.Value.{colourIn}
+use Rattle.colour.specs.declared.colour.Colouring.the-variants.{Of}
 
 row-value-requires : tie.Need-row-value-requires
 row-value-requires c κs = search needs

@@ -1,46 +1,46 @@
 -- `row_value`: by the tests in turn.
-use mathlib.Core.Path.{refl, sym}
-use borrow.Author.Tests.{lt-ltb, le-ltb, lt-leb, le-leb}
-use Rattle.style.proofs.Law.Ladder.{taken, passed}
-use lib.Seq.{length-take-le}
-use Rattle.painter.specs.Arrays.{rowValue}
-use Rattle.painter.specs.Arrays.{source}
-use Rattle.painter.proofs.Law.Turns.{row-inside}
 use borrow.Author.Needs.{needs}
 use Rattle.painter.proofs.draw.row_value.Statement.{statement}
 use Rattle.painter.proofs.draw.row_value.Tie as tie
+use mathlib.Core.Path.{sym}
+use lib.Seq.{length-take-le}
+use Rattle.painter.specs.Applied.{source}
+use Rattle.painter.proofs.Law.Turns.{row-none, row-backward, row-beyond-head, row-beyond-room, row-inside}
 
 returns : tie.Need-returns
-unfolding rowValue
 returns c =
-    sym (taken _ (le-leb 50 _ (c .if1 .taken)) refl)
+    let a = c .before .before .before .before .args in
+    row-none (source (a .head .now) (a .feature .now) (a .room .now) (a .plan .now)) (a .spans .now, a .floats .now) _ (c .if1 .taken)
 
-mul-from : tie.Need-mul-from
-mul-from c = search needs
+mul-place : tie.Need-mul-place
+mul-place c = search needs
 
-element-copy-out-from : tie.Need-element-copy-out-from
-element-copy-out-from c = search needs
+add-place : tie.Need-add-place
+add-place c = search needs
 
-mul-to : tie.Need-mul-to
-mul-to c = search needs
+number-at-requires : tie.Need-number-at-requires
+number-at-requires c κs = search needs
 
-element-copy-out-to : tie.Need-element-copy-out-to
-element-copy-out-to c = search needs
+add-number-at : tie.Need-add-number-at
+add-number-at c = search needs
+
+number-at-requires-2 : tie.Need-number-at-requires-2
+number-at-requires-2 c κs = search needs
 
 returns-2 : tie.Need-returns-2
-unfolding rowValue
 returns-2 c =
-    sym (passed _ (lt-leb 50 _ (c .before .before .before .if1 .left)) (taken _ (lt-ltb _ _ (c .if2 .taken)) refl))
+    let a = c .before .before .before .before .before .before .before .args in
+    row-backward (source (a .head .now) (a .feature .now) (a .room .now) (a .plan .now)) (a .spans .now, a .floats .now) _ (c .before .before .before .if1 .left) _ _ (c .before .before .number-at .ensures) (c .before .number-at2 .ensures) (c .if2 .taken)
 
 returns-3 : tie.Need-returns-3
-unfolding rowValue
 returns-3 c =
-    sym (passed _ (lt-leb 50 _ (c .before .before .before .before .if1 .left)) (passed _ (le-ltb _ _ (c .before .if2 .left)) (taken _ (lt-ltb _ _ (c .if3 .taken)) refl)))
+    let a = c .before .before .before .before .before .before .before .before .args in
+    row-beyond-head (source (a .head .now) (a .feature .now) (a .room .now) (a .plan .now)) (a .spans .now, a .floats .now) _ (c .before .before .before .before .if1 .left) _ _ (c .before .before .before .number-at .ensures) (c .before .before .number-at2 .ensures) (c .before .if2 .left) (c .if3 .taken)
 
 returns-4 : tie.Need-returns-4
-unfolding rowValue
 returns-4 c =
-    sym (passed _ (lt-leb 50 _ (c .before .before .before .before .before .if1 .left)) (passed _ (le-ltb _ _ (c .before .before .if2 .left)) (passed _ (le-ltb _ _ (c .before .if3 .left)) (taken _ (lt-ltb _ _ (c .if4 .taken)) refl))))
+    let a = c .before .before .before .before .before .before .before .before .before .args in
+    row-beyond-room (source (a .head .now) (a .feature .now) (a .room .now) (a .plan .now)) (a .spans .now, a .floats .now) _ (c .before .before .before .before .before .if1 .left) _ _ (c .before .before .before .before .number-at .ensures) (c .before .before .before .number-at2 .ensures) (c .before .before .if2 .left) (c .before .if3 .left) (c .if4 .taken)
 
 slice-aggregate-style : tie.Need-slice-aggregate-style
 slice-aggregate-style c =
@@ -55,11 +55,11 @@ part-slots-start c = search needs
 part-slots-end : tie.Need-part-slots-end
 part-slots-end c = search needs
 
-mul-root : tie.Need-mul-root
-mul-root c = search needs
+add-number-at-2 : tie.Need-add-number-at-2
+add-number-at-2 c = search needs
 
-element-copy-out-root : tie.Need-element-copy-out-root
-element-copy-out-root c = search needs
+number-at-requires-3 : tie.Need-number-at-requires-3
+number-at-requires-3 c κs = search needs
 
 evaluate-requires : tie.Need-evaluate-requires
 evaluate-requires c κs = search needs
@@ -69,19 +69,19 @@ value-in-requires c κs = search needs
 
 returns-5 : tie.Need-returns-5
 returns-5 c =
-    row-inside
-    (source (c .before .before .before .before .before .before .before .before .before .before .before .before .before .before .args .head .now) (c .before .before .before .before .before .before .before .before .before .before .before .before .before .before .args .feature .now) (c .before .before .before .before .before .before .before .before .before .before .before .before .before .before .args .room .now) (c .before .before .before .before .before .before .before .before .before .before .before .before .before .before .args .froms .now) (c .before .before .before .before .before .before .before .before .before .before .before .before .before .before .args .tos .now) (c .before .before .before .before .before .before .before .before .before .before .before .before .before .before .args .roots .now))
-    _ _ _ (c .before .before .before .before .before .before .before .before .before .before .if1 .left) (c .before .before .before .before .before .before .before .if2 .left) (c .before .before .before .before .before .before .if3 .left) (c .before .before .before .before .before .if4 .left) _ _ _ _ (c .value-in .ensures) (c .before .evaluate .ensures) refl refl
+    let a = c .before .before .before .before .before .before .before .before .before .before .before .before .before .before .args in
+    row-inside (source (a .head .now) (a .feature .now) (a .room .now) (a .plan .now)) (a .spans .now, a .floats .now) _ (c .before .before .before .before .before .before .before .before .before .before .if1 .left) _ _ (c .before .before .before .before .before .before .before .before .before .number-at .ensures) (c .before .before .before .before .before .before .before .before .number-at2 .ensures) (c .before .before .before .before .before .before .before .if2 .left) (c .before .before .before .before .before .before .if3 .left) (c .before .before .before .before .before .if4 .left) _ (c .before .before .number-at3 .ensures) _ _ (c .value-in .ensures) (c .before .evaluate .ensures)
 
 pub row-value-spec : {M : Type 1} → statement M
 row-value-spec =
     tie.close
     (tie.spec
     returns
-    mul-from
-    element-copy-out-from
-    mul-to
-    element-copy-out-to
+    mul-place
+    add-place
+    number-at-requires
+    add-number-at
+    number-at-requires-2
     returns-2
     returns-3
     returns-4
@@ -89,8 +89,8 @@ row-value-spec =
     mul-slots
     part-slots-start
     part-slots-end
-    mul-root
-    element-copy-out-root
+    add-number-at-2
+    number-at-requires-3
     evaluate-requires
     value-in-requires
     returns-5)

@@ -1,7 +1,8 @@
 use borrow.Author.Needs.{needs}
 use Rattle.syntax.proofs.judge.own_judgement.Statement.{statement}
 use Rattle.syntax.proofs.judge.own_judgement.Tie as tie
-use mathlib.Core.Path.{sym, _∙_}
+use mathlib.Core.Path.{sym, _∙_, ap}
+use Rattle.syntax.specs.Judge.{answerOf}
 use Rattle.syntax.proofs.Law.Whole.{kept-fine, kept-refused}
 
 size-judgement-requires : tie.Need-size-judgement-requires
@@ -11,8 +12,8 @@ size-judgement-requires c κs =
 enum-known-root : tie.Need-enum-known-root
 enum-known-root c = search needs
 
-enum-known-number : tie.Need-enum-known-number
-enum-known-number c = search needs
+enum-known-refusal : tie.Need-enum-known-refusal
+enum-known-refusal c = search needs
 
 clear-requires : tie.Need-clear-requires
 clear-requires c κs = search needs
@@ -22,14 +23,14 @@ same-length c = search needs
 
 returns : tie.Need-returns
 returns c =
-    (sym (c .before .root .given .1) ∙ c .before .before .before .before .before .size-judgement .ensures .answers, kept-fine _ (c .before .before .before .before .before .size-judgement .ensures) (c .before .root .given .1))
+    (ap answerOf (sym (c .before .root .given .1)) ∙ c .before .before .before .before .before .size-judgement .ensures .answers, kept-fine _ (c .before .before .before .before .before .size-judgement .ensures) (c .before .root .given .1))
 
 same-length-2 : tie.Need-same-length-2
 same-length-2 c = search needs
 
 returns-2 : tie.Need-returns-2
 returns-2 c =
-    (sym (c .before .before .before .before .before .number .given .1) ∙ c .before .before .before .before .before .before .before .before .before .size-judgement .ensures .answers, kept-refused _ (c .before .before .before .before .before .before .before .before .before .size-judgement .ensures) (c .before .before .before .before .before .number .given .1) (c .before .before .clear .ensures))
+    (ap answerOf (sym (c .before .before .before .before .before .refusal .given .1)) ∙ c .before .before .before .before .before .before .before .before .before .size-judgement .ensures .answers, kept-refused _ (c .before .before .before .before .before .before .before .before .before .size-judgement .ensures) (c .before .before .before .before .before .refusal .given .1) (c .before .before .clear .ensures))
 
 pub own-judgement-spec : {M : Type 1} → statement M
 own-judgement-spec =
@@ -37,7 +38,7 @@ own-judgement-spec =
     (tie.spec
     size-judgement-requires
     enum-known-root
-    enum-known-number
+    enum-known-refusal
     clear-requires
     same-length
     returns

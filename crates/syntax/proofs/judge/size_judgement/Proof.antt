@@ -1,7 +1,8 @@
 use borrow.Author.Needs.{needs}
 use Rattle.syntax.proofs.judge.size_judgement.Statement.{statement}
 use Rattle.syntax.proofs.judge.size_judgement.Tie as tie
-use mathlib.Core.Path.{sym, _∙_}
+use mathlib.Core.Path.{sym, _∙_, ap}
+use Rattle.lexer.specs.Scan.{answerOf}
 use Rattle.syntax.proofs.Law.Whole.{size-over, tokens-bad, tokens-fine}
 
 returns : tie.Need-returns
@@ -18,19 +19,19 @@ grammar-judgement-requires : tie.Need-grammar-judgement-requires
 grammar-judgement-requires c κs =
     (c .before .before .before .before .if1 .left, c .before .before .before .before .before .before .before .pre)
 
-enum-known-number : tie.Need-enum-known-number
-enum-known-number c = search needs
+enum-known-refusal : tie.Need-enum-known-refusal
+enum-known-refusal c = search needs
 
 same-length : tie.Need-same-length
 same-length c = search needs
 
 returns-2 : tie.Need-returns-2
 returns-2 c =
-    tokens-fine _ (c .before .before .before .before .before .before .before .if1 .left) (sym (c .before .before .before .before .before .before .scan .ensures) ∙ c .before .before .before .before .enum-told .given .1) (c .before .before .grammar-judgement .ensures)
+    tokens-fine _ (c .before .before .before .before .before .before .before .if1 .left) (sym (c .before .before .before .before .before .before .scan .ensures) ∙ ap answerOf (c .before .before .before .before .enum-told .given .1)) (c .before .before .grammar-judgement .ensures)
 
 returns-3 : tie.Need-returns-3
 returns-3 c =
-    tokens-bad _ (c .before .before .before .before .if1 .left) (sym (c .before .before .before .scan .ensures) ∙ c .before .number .given .1)
+    tokens-bad _ (c .before .before .before .before .if1 .left) (sym (c .before .before .before .scan .ensures) ∙ ap answerOf (c .before .refusal .given .1))
 
 pub size-judgement-spec : {M : Type 1} → statement M
 size-judgement-spec =
@@ -40,7 +41,7 @@ size-judgement-spec =
     scan-requires
     enum-told
     grammar-judgement-requires
-    enum-known-number
+    enum-known-refusal
     same-length
     returns-2
     returns-3)

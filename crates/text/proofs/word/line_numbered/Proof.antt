@@ -28,12 +28,8 @@ returns-5 c =
 
 returns-6 : tie.Need-returns-6
 returns-6 c =
-    rw (c .match .keys6)
-
-returns-7 : tie.Need-returns-7
-returns-7 c =
-    sym (List·getD-eq-default linesListed _ (above 6 (c .before .args .number) (c .match .rest)))
+    sym (List·getD-eq-default linesListed _ (above 5 (c .before .args .number) (c .match .rest)))
 
 pub line-numbered-spec : {M : Type 1} → statement M
 line-numbered-spec =
-    tie.close (tie.spec returns returns-2 returns-3 returns-4 returns-5 returns-6 returns-7)
+    tie.close (tie.spec returns returns-2 returns-3 returns-4 returns-5 returns-6)

@@ -1,6 +1,6 @@
 -- `colour_at` looks up the part, its ends cut to the text.
 use borrow.Author.Needs.{needs}
-use Rattle.value.proofs.Law.Texts.{part-cut}
+use Rattle.lexer.proofs.Law.Texts.{part-cut}
 use Rattle.value.proofs.make.colour_at.Statement.{statement}
 use Rattle.value.proofs.make.colour_at.Tie as tie
 
