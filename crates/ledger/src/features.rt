@@ -127,13 +127,9 @@ fn ended_lines(
             break;
         }
         let waiting = add(head, plan, slots, &block[at..end], out, spans, floats, q);
-        q = Progress {
-            at: end + 1,
-            number: q.number + 1,
-            waiting,
-            inside: q.inside,
-            input_ends: q.input_ends,
-        };
+        q.at = end + 1;
+        q.number += 1;
+        q.waiting = waiting;
     }
     q
 }
@@ -226,9 +222,10 @@ fn all_lines(
     };
     for _ in 0..MOST_BLOCKS {
         let end = input::fill(block, kept);
-        p.input_ends = end < block.len();
+        let input_ends = end < block.len();
+        p.input_ends = input_ends;
         p = lines(head, plan, slots, &block[..end], out, spans, floats, p);
-        if p.input_ends | (LAST < p.number) {
+        if input_ends | (LAST < p.number) {
             return p.waiting;
         }
         kept = input::keep(block, p.at);

@@ -16,8 +16,8 @@ slice-aggregate-compile-2 c = search needs
 compile-requires : tie.Need-compile-requires
 compile-requires c κs = search needs
 
-enum-known-answer : tie.Need-enum-known-answer
-enum-known-answer c = search needs
+enum-known-r : tie.Need-enum-known-r
+enum-known-r c = search needs
 
 print-refusal-requires : tie.Need-print-refusal-requires
 print-refusal-requires c κs = search needs
@@ -58,7 +58,7 @@ print-spec =
     slice-aggregate-compile
     slice-aggregate-compile-2
     compile-requires
-    enum-known-answer
+    enum-known-r
     print-refusal-requires
     enum-told
     slice-aggregate-print-features

@@ -9,11 +9,11 @@ use Rattle.ledger.proofs.Parts.{within-part}
 use Rattle.io.proofs.Counting.{front}
 
 abbrev Inv-loop : tie.InvT-loop
-Inv-loop head tables slots block₀ held out₀ kept₀ p₀ counter₀ block out kept p counter =
+Inv-loop head plan slots block₀ held out₀ spans₀ floats₀ kept₀ p₀ counter₀ block out spans floats kept p counter =
     (length block ≡ length block₀) × (length out ≡ length out₀) × (kept ≤ length block) × (p .waiting ≤ length out)
 
 abbrev μ-loop : tie.MeasureT-loop
-μ-loop head tables slots block₀ held out₀ kept₀ p₀ counter₀ block out kept p counter =
+μ-loop head plan slots block₀ held out₀ spans₀ floats₀ kept₀ p₀ counter₀ block out spans floats kept p counter =
     281474976710656 - counter
 
 loop-holds : tie.Need-loop-holds Inv-loop μ-loop
@@ -43,7 +43,7 @@ returns c = search needs
 
 keep-requires : tie.Need-keep-requires Inv-loop μ-loop
 keep-requires c κs =
-    within-part _ (c .before .before .before .before .before .before .before .before .before .before .fill .result) (c .before .before .before .before .before .before .before .before .before .before .fill .last .0) (c .before .before .before .before .before .lines .ensures .0)
+    within-part _ (c .before .before .before .before .before .before .before .before .before .before .before .before .fill .result) (c .before .before .before .before .before .before .before .before .before .before .before .before .fill .last .0) (c .before .before .before .before .before .lines .ensures .0)
 
 add-counter : tie.Need-add-counter Inv-loop μ-loop
 add-counter c = search needs

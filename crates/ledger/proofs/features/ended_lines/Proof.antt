@@ -8,12 +8,12 @@ use mathlib.Core.Path.{_≡_}
 use lib.ListN.{length}
 
 abbrev Inv-loop : tie.InvT-loop
-Inv-loop head tables slots block out₀ p at₀ number₀ waiting₀ out at number waiting =
-    (length out ≡ length out₀) × (at ≤ length block) × (waiting ≤ length out)
+Inv-loop head plan slots block out₀ spans₀ floats₀ q₀ out spans floats q =
+    (length out ≡ length out₀) × (q .at ≤ length block) × (q .waiting ≤ length out)
 
 abbrev μ-loop : tie.MeasureT-loop
-μ-loop head tables slots block out₀ p at₀ number₀ waiting₀ out at number waiting =
-    1000001 - number
+μ-loop head plan slots block out₀ spans₀ floats₀ q₀ out spans floats q =
+    1000001 - q .number
 
 loop-holds : tie.Need-loop-holds Inv-loop μ-loop
 loop-holds c = search needs
@@ -35,11 +35,11 @@ part-add-end c = search needs
 add-requires : tie.Need-add-requires Inv-loop μ-loop
 add-requires c κs = search needs
 
-add-at : tie.Need-add-at Inv-loop μ-loop
-add-at c = search needs
+add-q : tie.Need-add-q Inv-loop μ-loop
+add-q c = search needs
 
-add-number : tie.Need-add-number Inv-loop μ-loop
-add-number c = search needs
+add-q-2 : tie.Need-add-q-2 Inv-loop μ-loop
+add-q-2 c = search needs
 
 loop-less : tie.Need-loop-less Inv-loop μ-loop
 loop-less c = search needs
@@ -71,8 +71,8 @@ ended-lines-spec =
     part-add-start
     part-add-end
     add-requires
-    add-at
-    add-number
+    add-q
+    add-q-2
     loop-less
     loop-again
     same-length
