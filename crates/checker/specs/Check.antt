@@ -1,4 +1,5 @@
--- What the checker answers of a tree that lies in slots, from the sets of the names' numbers: page 01, number 7 of "Refusal numbers", and "Sizes" for the height.
+-- What the checker answers of a tree that lies in slots, from the sets of the names' numbers: page 01, number 7 of "Refusal numbers", and
+-- "Sizes" for the height.
 use mathlib.Core.List.{List}
 use Prim.Native.Nat.{ℕ}
 use Rattle.lexer.specs.Refusal.{Judged, refused, fine}

@@ -1,4 +1,5 @@
--- The kinds of an expression: page 01, "Kinds and meaning" ("The checker gives each node a set of kinds") and number 7 of "Refusal numbers".
+-- The kinds of an expression: page 01, "Kinds and meaning" ("The checker gives each node a set of kinds") and number 7 of "Refusal
+-- numbers".
 use mathlib.Core.Bool.{true, cond}
 use mathlib.Core.List.{List, [], _∷_}
 use Prim.Native.Nat.{ℕ}
@@ -67,7 +68,8 @@ conditionalOf p (Accepted t) (Accepted a) (Accepted b) = cond (withinOf t (singl
 
 -- ---- an expression
 
--- The set of an expression, or its refusal. The look-up gives the set of a variable, from its place and its number. Both branches of a conditional and both sides of `&&` and `||` are looked at:
+-- The set of an expression, or its refusal. The look-up gives the set of a variable, from its place and its number. Both branches of a
+-- conditional and both sides of `&&` and `||` are looked at:
 -- "branches never worked out are checked too".
 unfoldable mutual
   pub kindsOf : (ℕ → ℕ → Kinds) → Tree → Verdict

@@ -1,4 +1,5 @@
--- Names and the numbers that they are resolved to: page 01, "Sizes" and "Kinds and meaning" ("In `show`, `color` and `cond` a define hides a property of its name; inside a define every name is a property.").
+-- Names and the numbers that they are resolved to: page 01, "Sizes" and "Kinds and meaning" ("In `show`, `color` and `cond` a define hides
+-- a property of its name; inside a define every name is a property.").
 use mathlib.Core.Bool.{Bool, true, false, cond}
 use mathlib.Core.List.{List}
 use Prim.Native.Nat.{ℕ, zero, suc, _+_, _-_}

@@ -1,4 +1,5 @@
--- The kinds that a name stands for: page 01, "Kinds and meaning" ("a property its type plus Undefined or Null by flag, an undeclared name Undefined alone").
+-- The kinds that a name stands for: page 01, "Kinds and meaning" ("a property its type plus Undefined or Null by flag, an undeclared name
+-- Undefined alone").
 use mathlib.Core.Bool.{Bool, true, false, cond}
 use mathlib.Core.List.{List}
 use Prim.Native.Nat.{ℕ, _+_, _/_, _%_}
@@ -10,7 +11,8 @@ use Rattle.kind.specs.declared.kind.Kind.the-variants.{Undefined, Null}
 use Rattle.kind.specs.declared.set.Kinds.{Kinds}
 use Rattle.plan.specs.Layout as layout
 
--- what a name stands for, if it is no define: nothing that is declared, or a property with its type, and whether it may be absent and may be null
+-- what a name stands for, if it is no define: nothing that is declared, or a property with its type, and whether it may be absent and may
+-- be null
 pub data Property : Type 0 where
   undeclared : Property
   declared : Kind → Bool → Bool → Property

@@ -1,5 +1,5 @@
--- The colour that a text names: page 01, "Kinds and meaning" ("`#` and 3 or 6 hex digits, or one of CSS's sixteen basic words, any letter case; each byte
--- divided by 255"), and CSS Color Module Level 3, "Basic color keywords".
+-- The colour that a text names: page 01, "Kinds and meaning" ("`#` and 3 or 6 hex digits, or one of CSS's sixteen basic words, any letter
+-- case; each byte divided by 255"), and CSS Color Module Level 3, "Basic color keywords".
 use mathlib.Core.Bool.{true, cond, _&&_}
 use mathlib.Core.List.{List, [], _∷_, map}
 use Prim.Native.Nat.{ℕ, _+_, _*_, _%_}
@@ -55,7 +55,8 @@ colourAt n = first (drop n basics)
 
 -- ---- hex digits
 
--- of a hex digit: `0` is 48, `A` is 65 and `a` is 97, so that the last four bits of a digit are its value, and those of a letter its value less 9
+-- of a hex digit: `0` is 48, `A` is 65 and `a` is 97, so that the last four bits of a digit are its value, and those of a letter its value
+-- less 9
 abbrev pub hexValue : ℕ → ℕ
 hexValue b = cond (isDigit b) (b % 16) ((b + 9) % 16)
 

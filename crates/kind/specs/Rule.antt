@@ -1,5 +1,5 @@
--- What every operator, function and pick takes and gives: page 01, "Kinds and meaning", and for the constructors 004's list. An operation is given by its
--- signatures, as 004 lists them: the kinds of its operands, in order, and the kind of its result.
+-- What every operator, function and pick takes and gives: page 01, "Kinds and meaning", and for the constructors 004's list. An operation
+-- is given by its signatures, as 004 lists them: the kinds of its operands, in order, and the kind of its result.
 use mathlib.Core.Bool.{Bool, true, false, _&&_}
 use mathlib.Core.List.{List, [], _∷_, map, _++_}
 use Prim.Native.Nat.{ℕ}
@@ -68,7 +68,8 @@ having i (k ∷ ks) = elim (leb (dimensionOf k) i) [ true ↦ having i ks | fals
 
 -- ---- the signatures of each operation
 
--- "`+ - * / %`: two Numbers, or two vectors of one kind, by component. `*` also takes vector and Number in either order, `/` vector then Number."
+-- "`+ - * / %`: two Numbers, or two vectors of one kind, by component. `*` also takes vector and Number in either order, `/` vector then
+-- Number."
 -- "`min`, `max` ..: all of one kind, Number or vector, or Number in place of a vector as second of `min` or `max`"
 abbrev pub ofBinary : Binary → List Signature
 ofBinary Add = alike
@@ -126,8 +127,9 @@ abbrev pub ofProduct : Product → List Signature
 ofProduct Dot = map (λ k. (k ∷ k ∷ []) ⇒ Number) numerics
 ofProduct Cross = ((Vec3 ∷ Vec3 ∷ []) ⇒ Vec3) ∷ []
 
--- the rest: "Unary `+ -`: Number, vectors", "`abs sign floor ceil round fract`: Number or vector"; "`< <= > >=`: two Numbers"; "`===` takes all kinds",
--- and "`!==` is its negation"; "`isNaN`, `isFinite`: Number"; a pick takes the vectors that have its component ("`.z` of a vec2" is a fault)
+-- the rest: "Unary `+ -`: Number, vectors", "`abs sign floor ceil round fract`: Number or vector"; "`< <= > >=`: two Numbers"; "`===` takes
+-- all kinds", and "`!==` is its negation"; "`isNaN`, `isFinite`: Number"; a pick takes the vectors that have its component ("`.z` of a
+-- vec2" is a fault)
 abbrev pub signatures : Operation → List Signature
 signatures (op.Unary f) = one
 signatures (op.Binary f) = ofBinary f

@@ -24,7 +24,8 @@ bracketOf Variable = Neither
 bracketOf (Word k) = Neither
 bracketOf (Punctuator k) = punctuatorBracket k
 
--- "32 round brackets open at once (a `)` with none open changes nothing)": where the first stands that is the 33rd, when n are open before these tokens
+-- "32 round brackets open at once (a `)` with none open changes nothing)": where the first stands that is the 33rd, when n are open before
+-- these tokens
 unfoldable pub bracketsIn : ℕ → List Placed → Judged (Unit {0})
 bracketsIn n [] = fine tt
 bracketsIn n (placed t at end ∷ ts) = elim (bracketOf t) [

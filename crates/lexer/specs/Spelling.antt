@@ -1,5 +1,5 @@
--- Tokens as page 01's "Tokens and grammar" has them, sentence by sentence: which bytes spell which token, and what "Longest match" says of a place. `lexemeAt` meets it,
--- and nothing else does: `munch` in proofs/Munch.antt, `only` in proofs/Only.antt.
+-- Tokens as page 01's "Tokens and grammar" has them, sentence by sentence: which bytes spell which token, and what "Longest match" says of
+-- a place. `lexemeAt` meets it, and nothing else does: `munch` in proofs/Munch.antt, `only` in proofs/Only.antt.
 use mathlib.Core.Path.{_≡_}
 use mathlib.Core.Bool.{Bool, false}
 use mathlib.Core.List.{List, [], _∷_, _++_, List·Memᴰ}
@@ -23,8 +23,8 @@ abbrev pub All : (ℕ → Bool) → List ℕ → Type 0
 All p [] = Unit {0}
 All p (b ∷ bs) = T (p b) × All p bs
 
--- "a whole part (`0`, or digits not starting with 0) and maybe a point and at least one digit": the text, the whole number of its digits, how many of them stand after the
--- point, and how many there are
+-- "a whole part (`0`, or digits not starting with 0) and maybe a point and at least one digit": the text, the whole number of its digits,
+-- how many of them stand after the point, and how many there are
 pub data IsDecimal : List ℕ → ℕ → ℕ → ℕ → Type 0 where
   whole : {w : List ℕ} → IsWholePart w → IsDecimal w (joined 0 w) 0 (length w)
   pointed : (w f : List ℕ) → IsWholePart w → Digits⁺ f → IsDecimal (w ++ 46 ∷ f) (joined 0 (w ++ f)) (length f) (length w + length f)
@@ -59,8 +59,8 @@ pub record SpacesUpTo (text : List ℕ) (from at : ℕ) : Type 0 where
   pub spaces : All isSpace (slice from at text)
   pub no-more : isSpace (getD text at 0) ≡ false
 
--- What stands at a place or after it, within the text: a token, and no longer one stands there; or a refused one that is the longest, or a byte that begins no token at all; or
--- spaces up to the end.
+-- What stands at a place or after it, within the text: a token, and no longer one stands there; or a refused one that is the longest, or a
+-- byte that begins no token at all; or spaces up to the end.
 abbrev pub Munch : List ℕ → ℕ → Lexeme → Type 0
 Munch text from (Found t at end) = SpacesUpTo text from at × (end ≤ length text) × Spells (slice at end text) t × NoLonger (end - at) (drop at text)
 Munch text from (Bad at end) =

@@ -19,8 +19,8 @@ use Rattle.lexer.specs.declared.token.Lexeme.the-variants.{Found, Bad, E
 
 -- ---- each form of token, at a place, from the bytes that stand there
 
--- "A string is closed by the quote that opened it"; "a string with a byte below 0x20, or unclosed, is refused 2 at its opening quote". The bytes after the
--- quote q are given.
+-- "A string is closed by the quote that opened it"; "a string with a byte below 0x20, or unclosed, is refused 2 at its opening quote". The
+-- bytes after the quote q are given.
 unfoldable pub stringAt : ℕ → ℕ → List ℕ → Lexeme
 unfolding run
 stringAt at q bs =
@@ -42,7 +42,8 @@ variableAt at bs =
     let n = run isNameByte (drop 1 bs) in
     cond ((begins (ascii "{") bs && isNameLength n) && begins (ascii "}") (drop (1 + n) bs)) (Found Variable at (at + (n + 3))) (Bad at (at + 1))
 
--- "`true`, `false`, `null`, `undefined`, `NaN`, `Infinity`", "the literal words": the number of one is its place in this list, and that of any other word is 6
+-- "`true`, `false`, `null`, `undefined`, `NaN`, `Infinity`", "the literal words": the number of one is its place in this list, and that of
+-- any other word is 6
 abbrev pub literalWords : List (List ℕ)
 literalWords = ascii "true" ∷ ascii "false" ∷ ascii "null" ∷ ascii "undefined" ∷ ascii "NaN" ∷ ascii "Infinity" ∷ []
 

@@ -88,7 +88,8 @@ unfoldable pub tenTo : ℕ → Float
 tenTo zero = unit
 tenTo (suc k) = mul binary64 (tenTo k) ten
 
--- "Its value is the whole number of its digits made a binary64, then one division, rounded once, by ten to the number of digits after the point."
+-- "Its value is the whole number of its digits made a binary64, then one division, rounded once, by ten to the number of digits after the
+-- point."
 -- A field may have a `-` before it, and "`-0` is negative zero".
 unfoldable pub valueOf : Bool → ℕ → ℕ → Float
 unfolding tenTo

@@ -1,4 +1,5 @@
--- floor, ceil, round and fract: page 01, "Kinds and meaning". "`floor`, `ceil` and `round` as in ECMAScript, zeros' signs included; a half rounds up."
+-- floor, ceil, round and fract: page 01, "Kinds and meaning". "`floor`, `ceil` and `round` as in ECMAScript, zeros' signs included; a half
+-- rounds up."
 use mathlib.Core.Path.{_≡_}
 use mathlib.Core.Bool.{Bool, true, false}
 use Prim.Native.Nat.{ℕ, _*_}

@@ -10,7 +10,8 @@ use Rattle.colour.specs.declared.colour.Colour.{Colour}
 use Rattle.colour.specs.declared.colour.Colouring.{Colouring}
 use Rattle.colour.specs.declared.colour.Colouring.the-variants.{None, Of}
 
--- "an accepted one writes its line at the front and touches no byte after it": the line and its length; one that doesn't fit is left out, with the length 0
+-- "an accepted one writes its line at the front and touches no byte after it": the line and its length; one that doesn't fit is left out,
+-- with the length 0
 unfoldable pub front : List ℕ → List ℕ → List ℕ × ℕ
 front out line = cond (leb (length line) (length out)) (line ++ drop (length line) out, length line) (out, 0)
 

@@ -1,6 +1,5 @@
 -- What compiling leaves of a head for whoever paints: the plan, which is numbers, and beside each expression, in the room, its tree. Page
--- 01, "What the painter
--- reads" and "Sizes"; the layout is that of the crate `plan`.
+-- 01, "What the painter reads" and "Sizes"; the layout is that of the crate `plan`.
 use mathlib.Core.Bool.{cond}
 use mathlib.Core.List.{List, [], _∷_, _++_}
 use Prim.Native.Nat.{ℕ, _+_, _-_}

@@ -1,6 +1,5 @@
 -- One expression of a style: page 01, "Refusal numbers" ("its expressions left to right, each by 1 to 7 in that order") and "Kinds and
--- meaning" ("`show` and
--- conditions must end in Boolean, colours in vec4, defines in any kind.").
+-- meaning" ("`show` and conditions must end in Boolean, colours in vec4, defines in any kind.").
 use mathlib.Core.List.{List}
 use Prim.Native.Nat.{ℕ}
 use lib.ListN.{length}

@@ -1,8 +1,6 @@
 -- What a line of a head says before its expressions are judged: page 01, "What the painter reads" and number 8 of "Refusal numbers" ("a
--- head line's word
--- (unknown, out of order, one too many, `color` beside `cond`), then its field count, then its name, type and flags"; "0 for the word;
--- the end for the
--- count; else first wrong field"). And how it is judged then, whoever has read it.
+-- head line's word (unknown, out of order, one too many, `color` beside `cond`), then its field count, then its name, type and flags"; "0
+-- for the word; the end for the count; else first wrong field"). And how it is judged then, whoever has read it.
 use mathlib.Core.Bool.{Bool, true, cond, not, _&&_}
 use mathlib.Core.List.{List, map}
 use Prim.Native.Nat.{ℕ}
@@ -27,8 +25,8 @@ use Rattle.style.specs.Style.{Declared, Expression, Style, Entry, admits
 use Rattle.style.specs.Style as entry
 use Rattle.style.specs.Expression.{expressionOf}
 
--- `prop` name type flags; `define` name expression; `show` expression; `color` expression; `cond` condition expression. Expressions are
--- texts.
+-- Expressions are texts: `prop` name type flags; `define` name expression; `show` expression; `color` expression; `cond` condition
+-- expression.
 pub data Item : Type 0 where
   property : Declared → Item
   define : List ℕ → List ℕ → Item

@@ -1,6 +1,5 @@
 -- A style by its items, whoever has read them: page 01, "What the painter reads" and "Refusal numbers" ("then the head's lines in turn,
--- each 8
--- first and then its expressions left to right"). And the items that a head's lines give.
+-- each 8 first and then its expressions left to right"). And the items that a head's lines give.
 use mathlib.Core.Path.{_≡_}
 use mathlib.Core.Bool.{Bool, true, false, _&&_}
 use mathlib.Core.List.{List, [], _∷_, _++_, map}
@@ -64,8 +63,7 @@ itemsFrom n s (i ∷ is) = onLine n (itemJudged s i) (λ e. itemsFrom (suc n) (w
 -- ---- an expression of an item
 
 -- Those before it in its item are accepted: "its expressions left to right". "inside a define every name is a property"; "`show` and
--- conditions
--- must end in Boolean, colours in vec4, defines in any kind."
+-- conditions must end in Boolean, colours in vec4, defines in any kind."
 pub data Asks (s : Style) : Item → Scope → Wanted → List ℕ → Type 0 where
   define : {name text : List ℕ} → Asks s (item.define name text) scope.Define wanted.Any text
   show : {text : List ℕ} → Asks s (item.show text) scope.Style wanted.Boolean text

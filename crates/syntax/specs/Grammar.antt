@@ -1,5 +1,6 @@
--- The grammar: page 01, "Tokens and grammar". Which symbols are an expression, and of which tree: a relation, apart from any parser. Each rule is one way to put together what a nonterminal
--- stands for; where operators group to the left, the rule has its own nonterminal on its left.
+-- The grammar: page 01, "Tokens and grammar". Which symbols are an expression, and of which tree: a relation, apart from any parser. Each
+-- rule is one way to put together what a nonterminal stands for; where operators group to the left, the rule has its own nonterminal on its
+-- left.
 use mathlib.Core.Path.{_≡_}
 use mathlib.Core.Bool.{true}
 use mathlib.Core.List.{List, [], _∷_, _++_}
@@ -10,7 +11,8 @@ use Rattle.syntax.specs.Symbol.{question, colon, openRound, closeRound, 
 use Rattle.syntax.specs.Symbol as symbol
 use Rattle.syntax.specs.declared.symbol.Symbol.{Symbol}
 
--- "Precedence, lowest first", each with all that bind more: conditionals; the binary operators of the levels 1 to k; unary operators; picks; primaries. And the arguments of a call.
+-- "Precedence, lowest first", each with all that bind more: conditionals; the binary operators of the levels 1 to k; unary operators;
+-- picks; primaries. And the arguments of a call.
 pub data Nonterminal : Type 0 where
   expression : Nonterminal
   binary : ℕ → Nonterminal
@@ -53,7 +55,8 @@ module _ (text : List ℕ) where
     index : {xs : List Symbol} {e : Tree} (x y z : Symbol) → is openSquare x ≡ true → isIndex y ≡ true → is closeSquare z ≡ true → Derives postfix xs e →
         Derives postfix (xs ++ ‹ x › ++ ‹ y › ++ ‹ z ›) (tree.pick (x .at) (indexOf y) e)
     -- primary := literal | variable | word `(` `)` | word `(` arguments `)` | `(` expression `)`
-    -- "A primary is a number, string, variable, `true`, `false`, `null`, `undefined`, `NaN`, `Infinity`, a call, or brackets: a bracketed expression holds a whole expression again."
+    -- "A primary is a number, string, variable, `true`, `false`, `null`, `undefined`, `NaN`, `Infinity`, a call, or brackets: a bracketed
+    -- expression holds a whole expression again."
     literal : (x : Symbol) → isLiteral x ≡ true → Derives primary ‹ x › (tree.literal (x .at) (formOf x))
     variable : (x : Symbol) → is symbol.variable x ≡ true → Derives primary ‹ x › (tree.variable (x .at) 0)
     bare : (x y z : Symbol) → is word x ≡ true → is openRound y ≡ true → is closeRound z ≡ true → Derives primary (‹ x › ++ ‹ y › ++ ‹ z ›) (tree.bare (x .at) (functionOf text x))

@@ -1,5 +1,6 @@
--- The parser: page 01, "Tokens and grammar". Each level of precedence is a parser, put together from a few pieces; the levels call each other, with steps to spend, over any stream that
--- gives its next symbol and what follows. It takes what the grammar of `Grammar.antt` derives and nothing else, and refuses where `Place.antt` says: proofs/Grammar/Text.antt.
+-- The parser: page 01, "Tokens and grammar". Each level of precedence is a parser, put together from a few pieces; the levels call each
+-- other, with steps to spend, over any stream that gives its next symbol and what follows. It takes what the grammar of `Grammar.antt`
+-- derives and nothing else, and refuses where `Place.antt` says: proofs/Grammar/Text.antt.
 use mathlib.Core.Bool.{Bool, true, false}
 use mathlib.Core.List.{List}
 use mathlib.Core.Option.{Option, none, some}
@@ -106,7 +107,8 @@ module _ (text : List ℕ) {S : Type 0} (following : S → Option (Symbol × S))
         (ask following (is openSquare) (λ x. expect following isIndex (λ y. expect following (is closeSquare) (λ z. picksFrom f (pick (x .at) (indexOf y) e))))
         (part e))
 
-    -- "A primary is a number, string, variable, `true`, `false`, `null`, `undefined`, `NaN`, `Infinity`, a call, or brackets: a bracketed expression holds a whole expression again."
+    -- "A primary is a number, string, variable, `true`, `false`, `null`, `undefined`, `NaN`, `Infinity`, a call, or brackets: a bracketed
+    -- expression holds a whole expression again."
     pub primaryFrom : ℕ → S → Result S Tree
     primaryFrom zero = nothing
     primaryFrom (suc f) =

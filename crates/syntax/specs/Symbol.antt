@@ -1,5 +1,6 @@
--- What the grammar sees of a token: page 01, "Tokens and grammar". A symbol has a number, the place of its token and its end. Punctuators have their own numbers (`?` is 0, `.` is 21);
--- then come the indices `0` to `3`, any other number, a string, the literal words, any other word, and a variable. Behind the last token stands the symbol 36, where the text ends.
+-- What the grammar sees of a token: page 01, "Tokens and grammar". A symbol has a number, the place of its token and its end. Punctuators
+-- have their own numbers (`?` is 0, `.` is 21); then come the indices `0` to `3`, any other number, a string, the literal words, any other
+-- word, and a variable. Behind the last token stands the symbol 36, where the text ends.
 use mathlib.Core.Bool.{Bool, cond, _&&_, _||_}
 use mathlib.Core.List.{List}
 use Prim.Native.Nat.{ℕ, _+_, _-_}
@@ -54,7 +55,8 @@ end = 36
 abbrev pub none : ℕ
 none = 37
 
--- "`[0]` to `[3]`, the index one digit": such a number has no digit after the point, and is below 4. Literal words have the numbers 28 to 33, in the lexer's order.
+-- "`[0]` to `[3]`, the index one digit": such a number has no digit after the point, and is below 4. Literal words have the numbers 28 to
+-- 33, in the lexer's order.
 abbrev pub numberOf : Token → ℕ
 numberOf (Number digits places) = cond (eqb places 0 && ltb digits 4) (22 + digits) 26
 numberOf String = 27
@@ -102,7 +104,8 @@ isWord x = leb 28 (x .number) && leb (x .number) word
 abbrev pub isPrefix : Symbol → Bool
 isPrefix x = (eqb (x .number) 10 || eqb (x .number) 11) || eqb (x .number) 15
 
--- "Precedence, lowest first: `? :`, `||`, `&&`, equality, order, `+ -`, `* / %`": the levels of binary operators, from the one that binds most, and 0 for what is none
+-- "Precedence, lowest first: `? :`, `||`, `&&`, equality, order, `+ -`, `* / %`": the levels of binary operators, from the one that binds
+-- most, and 0 for what is none
 unfoldable pub precedenceOf : ℕ → ℕ
 precedenceOf n =
     cond (leb 12 n && leb n 14) 1

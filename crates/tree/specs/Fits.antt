@@ -3,7 +3,8 @@ use Prim.Native.Nat.{ℕ, zero, suc, _+_, _<_, _≤_}
 use Rattle.tree.specs.Tree.{Tree, literal, variable, unary, binary, conditional, bare, call, pick, Arguments, last, next}
 use Rattle.tree.specs.Slots.{Shape, leaf, held, before, between, after}
 
--- The places of the nodes rise from left to right, from lo up to hi, and the link of the slot at hi - 1 is no node's own: it is free for the node that comes next.
+-- The places of the nodes rise from left to right, from lo up to hi, and the link of the slot at hi - 1 is no node's own: it is free for
+-- the node that comes next.
 unfoldable pub Within : ℕ → ℕ → Shape → Type 0
 Within lo hi (leaf p tag) = (lo ≤ p) × (p < hi) × (tag < 64)
 Within lo hi (held p tag n) = (lo ≤ p) × (p + 1 < hi) × (tag < 64) × (n < 1024)

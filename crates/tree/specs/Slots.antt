@@ -1,6 +1,7 @@
--- How a tree lies in slots of sixteen bits, a slot for each byte of the expression. A slot has a tag of six bits, which says what the node at that place is, and a link of
--- ten, the place of one of its parts. A node with parts on both sides keeps the place of the left one in the link of the slot before its own: that slot is the last byte of the left
--- part, or a space or bracket after it, and no node uses its link.
+-- How a tree lies in slots of sixteen bits, a slot for each byte of the expression. A slot has a tag of six bits, which says what the node
+-- at that place is, and a link of ten, the place of one of its parts. A node with parts on both sides keeps the place of the left one in
+-- the link of the slot before its own: that slot is the last byte of the left part, or a space or bracket after it, and no node uses its
+-- link.
 use mathlib.Core.List.{List}
 use Prim.Native.Nat.{ℕ, _+_, _*_, _-_, _/_, _%_}
 use lib.ListN.{getD, set}
@@ -54,8 +55,8 @@ pickTag i = 56 + i
 
 -- ---- what lies in the slots
 
--- Where the parts of a node stand: nowhere, after it, before it, or on both sides. Each has its place and its tag. Of a leaf the link is free, since it may have a byte alone;
--- what is held in the link of a longer one is a number.
+-- Where the parts of a node stand: nowhere, after it, before it, or on both sides. Each has its place and its tag. Of a leaf the link is
+-- free, since it may have a byte alone; what is held in the link of a longer one is a number.
 pub data Shape : Type 0 where
   leaf : ℕ → ℕ → Shape
   held : ℕ → ℕ → ℕ → Shape

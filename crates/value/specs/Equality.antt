@@ -1,4 +1,5 @@
--- `===`: page 01, "Kinds and meaning". "`===` takes all kinds: false if they differ, strings by bytes, vectors by components, `NaN` equals nothing."
+-- `===`: page 01, "Kinds and meaning". "`===` takes all kinds: false if they differ, strings by bytes, vectors by components, `NaN` equals
+-- nothing."
 use mathlib.Core.Bool.{Bool, true, _&&_, Bool·beq}
 use mathlib.Core.List.{List}
 use Prim.Native.Nat.{ℕ}

@@ -81,8 +81,8 @@ productOf Cross p q = Vec3 (crossAt p q 1 2) (crossAt p q 2 0) (crossAt p q 0 1)
 
 -- ---- constructors
 
--- The components of a vector's operands, one operand after the other. A vector takes as many as it needs, so that what a longer operand has more is dropped; a
--- Number alone stands at each (004, the list of constructors).
+-- The components of a vector's operands, one operand after the other. A vector takes as many as it needs, so that what a longer operand has
+-- more is dropped; a Number alone stands at each (004, the list of constructors).
 unfoldable pub joinedAt : Value → Value → Value → Value → ℕ → Float
 joinedAt a b c d i = getD (componentsOf a ++ componentsOf b ++ componentsOf c ++ componentsOf d) i (at 0 a)
 

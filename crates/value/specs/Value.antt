@@ -25,7 +25,8 @@ kindOf (Vec2 x y) = kind.Vec2
 kindOf (Vec3 x y z) = kind.Vec3
 kindOf (Vec4 x y z w) = kind.Vec4
 
--- A String is a place, in the style's text if it is a literal and else in the feature's. These are its bytes: what a literal's bytes mean is the lexer's.
+-- A String is a place, in the style's text if it is a literal and else in the feature's. These are its bytes: what a literal's bytes mean
+-- is the lexer's.
 unfoldable pub textIn : List ℕ → List ℕ → Span → List ℕ
 textIn style feature s = cond (s .literal) (meaning (slice (s .start) (s .end) style)) (slice (s .start) (s .end) feature)
 
