@@ -8,6 +8,7 @@ use Rattle.lexer.specs.Refusal.{fine}
 use Rattle.kind.specs.declared.set.Kinds.{Kinds}
 use Rattle.value.specs.Name.{functionAt, pickAt}
 use Rattle.tree.specs.Tree.{Tree, literal, variable, unary, binary, conditional, bare, call, pick, place, Arguments, last, next}
+use Rattle.syntax.specs.Sizes.{mostHeight}
 use Rattle.syntax.specs.Judge.{judgedOf, slotsAfter}
 use Rattle.syntax.proofs.Laid.{judged-fits}
 use Rattle.checker.specs.Name.{nameAt, resolvedSlots, resolved, resolvedAll}
@@ -42,5 +43,5 @@ pub checked-named : (number : List ℕ → ℕ) → ((x : List ℕ) → number x
     checkedAt (resolvedSlots number text (slotsAfter w text)) plan (place e) want end ≡ answerOf (resultOf want end (kindsOf (λ p n. setAt plan (number (nameAt text p))) e))
 checked-named number small text w e judged room plan want end =
     ap (λ v. answerOf (resultOf want end v))
-    (ap (kindsOf (λ p n. setAt plan n)) (read-resolved number small text w e 64 judged room (judged-fits text e judged .1))
+    (ap (kindsOf (λ p n. setAt plan n)) (read-resolved number small text w e mostHeight judged room (judged-fits text e judged .1))
     ∙ kinds-resolved (λ p n. setAt plan n) (λ p. number (nameAt text p)) e)

@@ -5,6 +5,7 @@ use Prim.Native.Nat.{ℕ}
 use Rattle.lexer.specs.Refusal.{Judged, refused, fine}
 use Rattle.kind.specs.declared.set.Kinds.{Kinds}
 use Rattle.tree.specs.Node.{treeAt}
+use Rattle.syntax.specs.Sizes.{mostHeight}
 use Rattle.checker.specs.Property.{setAt}
 use Rattle.checker.specs.Kinds.{kindsOf, resultOf}
 use Rattle.checker.specs.declared.check.Verdict.{Verdict}
@@ -20,6 +21,6 @@ abbrev pub answerOf : Verdict → Judged Kinds
 answerOf (Refused r) = refused r
 answerOf (Accepted s) = fine s
 
--- "tree height 64": the whole tree, and its result
+-- the whole tree, and its result
 abbrev pub checkedAt : List ℕ → List ℕ → ℕ → Wanted → ℕ → Judged Kinds
-checkedAt slots plan root want end = answerOf (resultOf want end (kindsAt slots plan root 64))
+checkedAt slots plan root want end = answerOf (resultOf want end (kindsAt slots plan root mostHeight))

@@ -45,10 +45,3 @@ prefixAt n = numberedIn prefixes n
 
 unfoldable pub infixAt : ℕ → Found
 infixAt n = numberedIn infixes n
-
--- the two that may leave their right side alone
-abbrev pub or : ℕ
-or = placeIn punctuators (ascii "||")
-
-abbrev pub and : ℕ
-and = placeIn punctuators (ascii "&&")

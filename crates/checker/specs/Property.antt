@@ -46,7 +46,14 @@ bit b n = cond b n 0
 
 unfoldable pub packedOf : Kinds → ℕ
 packedOf s =
-    bit (s .undefined) 1 + (bit (s .null) 2 + (bit (s .boolean) 4 + (bit (s .number) 8 + (bit (s .string) 16 + (bit (s .vec2) 32 + (bit (s .vec3) 64 + bit (s .vec4) 128))))))
+    bit (s .undefined) 1
+    + (bit (s .null) 2
+    + (bit (s .boolean) 4
+    + (bit (s .number) 8
+    + (bit (s .string) 16
+    + (bit (s .vec2) 32
+    + (bit (s .vec3) 64
+    + bit (s .vec4) 128))))))
 
 -- the set of a name's number, in the plan; an undeclared name has none there
 unfoldable pub setAt : List ℕ → ℕ → Kinds

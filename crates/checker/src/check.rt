@@ -213,7 +213,8 @@ fn all_kinds(
     commas: usize,
     before: Checks,
 ) -> Checks
-    ensures { λ r. ⌜ r ≡ withAll before (kindsOfAll (λ p n. setAt (now (plan .entry)) n) (argumentsAt (treeAt allowance (now (slots .entry))) commas (now (slots .entry)) at)) ⌝ }
+    ensures { λ r. ⌜ r ≡ withAll before (kindsOfAll (λ p n. setAt (now (plan .entry)) n)
+        (argumentsAt (treeAt allowance (now (slots .entry))) commas (now (slots .entry)) at)) ⌝ }
 {
     if commas == 0 {
         return with_one(before, kinds(slots, plan, at, allowance));

@@ -107,7 +107,8 @@ fn number_variable(
     slots: &mut [u16],
 )
     requires { ⌜ Stands (now text) Variable at end ⌝ }
-    ensures { λ _. ⌜ now (slots .exit) ≡ numbered (numberOf scope (now (head .entry)) (now (names .entry))) (now (text .entry)) Variable at end (now (slots .entry)) ⌝ }
+    ensures { λ _. ⌜ now (slots .exit) ≡ numbered (numberOf scope (now (head .entry)) (now (names .entry)))
+        (now (text .entry)) Variable at end (now (slots .entry)) ⌝ }
 {
     let name = number(scope, head, names, &text[at + 2..end - 1]);
     write::variable(slots, at, name);
@@ -115,7 +116,8 @@ fn number_variable(
 
 // Each variable of a text gets its name's number, in the slots beside the text.
 pub fn resolve(scope: Scope, head: &[u8], names: &Names, text: &[u8], slots: &mut [u16])
-    ensures { λ _. ⌜ now (slots .exit) ≡ resolvedSlots (numberOf scope (now (head .entry)) (now (names .entry))) (now (text .entry)) (now (slots .entry)) ⌝ }
+    ensures { λ _. ⌜ now (slots .exit) ≡ resolvedSlots (numberOf scope (now (head .entry)) (now (names .entry)))
+        (now (text .entry)) (now (slots .entry)) ⌝ }
 {
     let mut from = 0;
     loop {

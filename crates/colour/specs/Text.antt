@@ -2,9 +2,9 @@
 -- case; each byte divided by 255"), and CSS Color Module Level 3, "Basic color keywords".
 use mathlib.Core.Bool.{true, cond, _&&_}
 use mathlib.Core.List.{List, [], _∷_, map}
-use Prim.Native.Nat.{ℕ, _+_, _*_, _%_}
+use Prim.Native.Nat.{ℕ, suc, _+_, _*_}
+use lib.Dec.{eqb}
 use lib.ListN.{drop}
-use Rattle.number.specs.Decimal.{isDigit}
 use Rattle.lexer.specs.Bytes.{isHexDigit, begins, placeIn, ascii}
 use Rattle.words.specs.Table.{folded}
 use Rattle.colour.specs.Colour.{ofBytes}
@@ -55,10 +55,14 @@ colourAt n = first (drop n basics)
 
 -- ---- hex digits
 
--- of a hex digit: `0` is 48, `A` is 65 and `a` is 97, so that the last four bits of a digit are its value, and those of a letter its value
--- less 9
+-- the place of a byte in a text, or how long the text is
+abbrev pub placeOf : List ℕ → ℕ → ℕ
+placeOf [] b = 0
+placeOf (c ∷ cs) b = cond (eqb b c) 0 (suc (placeOf cs b))
+
+-- the value of a hex digit, in "any letter case", is its place among them all
 abbrev pub hexValue : ℕ → ℕ
-hexValue b = cond (isDigit b) (b % 16) ((b + 9) % 16)
+hexValue b = placeOf (ascii "0123456789abcdef") (folded true b)
 
 -- three digits, each of which stands for two
 unfoldable pub shortHex : ℕ → ℕ → ℕ → Named

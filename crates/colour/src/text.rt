@@ -4,7 +4,8 @@ ghost use mathlib.Core.Bool.{_&&_};
 ghost use Prim.Native.Nat.{_+_, _*_};
 ghost use lib.ListN.{drop};
 ghost use Rattle.lexer.specs.Bytes.{isHexDigit};
-ghost use Rattle.colour.specs.Text.{hexValue, shortHex, longHex, colourAt, hexText, colourOf};
+ghost use Rattle.colour.specs.Inner.{lastBits};
+ghost use Rattle.colour.specs.Text.{shortHex, longHex, colourAt, hexText, colourOf};
 use crate::colour::Colour;
 use lexer::bytes::has_byte;
 use lexer::bytes::is_digit;
@@ -18,7 +19,7 @@ pub enum Named {
 
 // The value of a hex digit. The last four bits of a letter are its value less 9.
 fn hex_value(b: u8) -> u8
-    ensures { λ r. ⌜ r ≡ hexValue b ⌝ }
+    ensures { λ r. ⌜ r ≡ lastBits b ⌝ }
 {
     if is_digit(b) {
         b % 16
@@ -39,7 +40,7 @@ fn short_hex(r: u8, g: u8, b: u8) -> Named
 }
 
 fn hex_byte(high: u8, low: u8) -> u8
-    ensures { λ r. ⌜ r ≡ 16 * hexValue high + hexValue low ⌝ }
+    ensures { λ r. ⌜ r ≡ 16 * lastBits high + lastBits low ⌝ }
 {
     16 * hex_value(high) + hex_value(low)
 }

@@ -40,7 +40,7 @@ use Rattle.lexer.proofs.Munch.{munch}
 use Rattle.value.specs.Value.{kindOf, componentsOf, at, truth, nowhere, colourIn}
 use Rattle.value.specs.Scalar as scalar
 use Rattle.value.specs.Equality.{partsEqual, equalOf}
-use Rattle.value.specs.Meaning.{byComponent, logicOf, equalityOf, sumTo, dotOf, crossAt, productOf, joinedAt, orWhite, alphaOr, colorOf, vec4Of, constructed, madeOf, outcome, operand, meaning}
+use Rattle.value.specs.Meaning.{byComponent, logicOf, equalityOf, sumOf, dotOf, crossAt, productOf, joinedAt, orWhite, alphaOr, colorOf, vec4Of, constructed, madeOf, outcome, operand, meaning}
 use Rattle.value.specs.Name.{functionAt, pickAt}
 use Rattle.value.specs.declared.apply.Outcome.{Outcome}
 use Rattle.value.specs.declared.apply.Outcome.the-variants.{Fault, Worked}
@@ -50,10 +50,12 @@ use Rattle.value.specs.declared.value.Span.{Span}
 use Rattle.value.specs.declared.value.Value.{Value}
 use Rattle.value.specs.declared.value.Value.the-variants.{Undefined, Null, Boolean, Number, String, Vec2, Vec3, Vec4}
 use Rattle.tree.specs.Tree.{Tree, literal, variable, unary, binary, conditional, bare, call, pick, Arguments, last, next}
-use Rattle.checker.specs.Operator.{prefixAt, infixAt, or, and}
+use Rattle.checker.specs.Operator.{prefixAt, infixAt}
 use Rattle.evaluator.specs.Literal.{tokenSpan, spanIn, wordValues, literalAt, movedSpan, movedValue}
-use Rattle.evaluator.specs.Eval.{isFault, valueIn, someFault, applied, branchOf, booleanOf, orOf, andOf, binaryOf, Context, evalOf, evalOfAll}
+use Rattle.evaluator.specs.Eval.{isFault, valueIn, someFault, applied, branchOf, booleanOf, needOf, binaryBy, Context, evalOf, evalOfAll}
 use Rattle.evaluator.specs.Demand.{Variables, VariablesOf}
+use Rattle.evaluator.specs.declared.need.Need.{Need}
+use Rattle.evaluator.specs.declared.need.Need.the-variants.{Both, UntilTrue, UntilFalse}
 use Rattle.evaluator.specs.Alike.{isString, Alike, same, strings, AlikeOutcomes, Within}
 
 -- ---- what is seen of two values alike
@@ -156,7 +158,7 @@ module _ {R : Span → Span → Type 0} (t u : Span → List ℕ) (bytes : (s z 
 
     product-is : (f : Product) → productOf f a b ≡ productOf f a′ b′
     unfolding dotOf crossAt
-    product-is Dot = λ i. Number (sumTo (dimensionOf (alike-kind p i) - 1) (λ j. mul binary64 (alike-at p j i) (alike-at q j i)))
+    product-is Dot = λ i. Number (sumOf (dimensionOf (alike-kind p i)) (λ j. mul binary64 (alike-at p j i) (alike-at q j i)))
     product-is Cross = λ i. Vec3 (cross 1 2 i) (cross 2 0 i) (cross 0 1 i)
       where
         cross : (j k : ℕ) → crossAt a b j k ≡ crossAt a′ b′ j k
@@ -262,14 +264,11 @@ module _ (R : Span → Span → Type 0) where
     applied-one : (found : Found) (o p : Outcome) → AlikeOutcomes R o p → AlikeOutcomes R (applied (c .text) found (o ∷ [])) (applied (d .text) found (p ∷ []))
     applied-one found o p h = applied-alike found (more o p h none)
 
-    binary-alike : (o : ℕ) (l r x y : Outcome) → AlikeOutcomes R l x → AlikeOutcomes R r y → AlikeOutcomes R (binaryOf (c .text) o l r) (binaryOf (d .text) o x y)
-    binary-alike o l r x y hl hr = go (eqb o or) (eqb o and)
-      where
-        go : (p q : Bool) → AlikeOutcomes R (cond p (orOf l r) (cond q (andOf l r) (applied (c .text) (infixAt o) (l ∷ r ∷ []))))
-            (cond p (orOf x y) (cond q (andOf x y) (applied (d .text) (infixAt o) (x ∷ y ∷ []))))
-        go true q = branch-alike l x _ _ _ _ hl (same (Boolean true) tt) (boolean-alike r y hr)
-        go false true = branch-alike l x _ _ _ _ hl (boolean-alike r y hr) (same (Boolean false) tt)
-        go false false = applied-alike (infixAt o) (more l x hl (more r y hr none))
+    binary-alike : (found : Found) (n : Need) (l r x y : Outcome) → AlikeOutcomes R l x → AlikeOutcomes R r y →
+        AlikeOutcomes R (binaryBy n (c .text) found l r) (binaryBy n (d .text) found x y)
+    binary-alike found Both l r x y hl hr = applied-alike found (more l x hl (more r y hr none))
+    binary-alike found UntilTrue l r x y hl hr = branch-alike l x _ _ _ _ hl (same (Boolean true) tt) (boolean-alike r y hr)
+    binary-alike found UntilFalse l r x y hl hr = branch-alike l x _ _ _ _ hl (boolean-alike r y hr) (same (Boolean false) tt)
 
     module _ (literals : (p k : ℕ) → Alike R (c .literals p k) (d .literals p k)) where
       mutual
@@ -279,7 +278,8 @@ module _ (R : Span → Span → Type 0) where
         eval-alike (literal p k) h = literals p k
         eval-alike (variable p n) h = h
         eval-alike (unary p o e) h = applied-one (prefixAt o) (evalOf c e) (evalOf d e) (eval-alike e h)
-        eval-alike (binary p o l r) h = binary-alike o (evalOf c l) (evalOf c r) (evalOf d l) (evalOf d r) (eval-alike l (h .0)) (eval-alike r (h .1))
+        eval-alike (binary p o l r) h =
+            binary-alike (infixAt o) (needOf (infixAt o)) (evalOf c l) (evalOf c r) (evalOf d l) (evalOf d r) (eval-alike l (h .0)) (eval-alike r (h .1))
         eval-alike (conditional p q t a b) h =
             branch-alike (evalOf c t) (evalOf d t) (evalOf c a) (evalOf c b) (evalOf d a) (evalOf d b)
             (eval-alike t (h .0)) (eval-alike a (h .1)) (eval-alike b (h .2))

@@ -17,6 +17,7 @@ use Rattle.value.specs.declared.value.Span.{Span}
 use Rattle.value.specs.declared.value.Value.{Value}
 use Rattle.tree.specs.Tree.{Tree, place}
 use Rattle.tree.specs.Node.{treeAt}
+use Rattle.syntax.specs.Sizes.{mostHeight}
 use Rattle.syntax.specs.Judge.{judgedOf, slotsAfter}
 use Rattle.syntax.proofs.Laid.{judged-fits}
 use Rattle.checker.specs.Name.{nameAt, resolvedSlots, resolved}
@@ -29,7 +30,7 @@ use Rattle.checker.proofs.Named.{checked-named}
 use Rattle.evaluator.specs.Literal.{literalAt, movedValue}
 use Rattle.evaluator.specs.Values.{valueAt}
 use Rattle.evaluator.specs.Eval.{evalOf}
-use Rattle.evaluator.specs.Arrays.{arrayContext, mostHeight, evalAt}
+use Rattle.evaluator.specs.Arrays.{arrayContext, evalAt}
 use Rattle.evaluator.specs.Demand.{Conforms, Allowed, Worst, Variables, plain, isRefused, fails}
 use Rattle.evaluator.proofs.Literals.{literal-kind, literal-moved}
 use Rattle.evaluator.proofs.Named.{eval-resolved}

@@ -5,7 +5,7 @@ use mathlib.Core.Bool.{Bool, true, false, not, cond, _&&_, _||_, true≢false}
 use mathlib.Core.List.{List, [], _∷_, map}
 use mathlib.Core.Logic.{_⊎_, inl, inr, ⊎-elim, _↔_}
 use Prim.Native.Nat.{ℕ, suc}
-use lib.Dec.{T, T-not, not-T, eqb}
+use lib.Dec.{T, not-T}
 use lib.Ieee.Bits.{is-true}
 use lib.Ieee.Fits.{and-l, and-r}
 use lib.ListN.{length}
@@ -26,7 +26,7 @@ use Rattle.kind.specs.declared.choice.Checked.{Checked}
 use Rattle.kind.specs.declared.choice.Checked.the-variants as checked
 use Rattle.kind.proofs.Choosing.{Among, refused, accepted}
 use Rattle.kind.proofs.Lacking.{lacks, lacking}
-use Rattle.kind.proofs.Law.Choices.{or-l, or-r, or-elim, is-false, has-set}
+use Rattle.kind.proofs.Law.Choices.{or-l, or-r, or-elim, has-set}
 use Rattle.kind.proofs.Law.Sets.{has-union, in-single, single-is, in-left, in-right, is-within}
 use Rattle.value.specs.Value.{kindOf, nowhere}
 use Rattle.value.specs.Meaning.{meaning}
@@ -40,7 +40,7 @@ use Rattle.value.specs.declared.value.Value.{Value}
 use Rattle.value.specs.declared.value.Value.the-variants.{Undefined, Null, Boolean, Number, String, Vec2, Vec3, Vec4}
 use Rattle.value.proofs.Kinded.{ruled, kinded}
 use Rattle.tree.specs.Tree.{Tree, literal, variable, unary, binary, conditional, bare, call, pick, Arguments, last, next}
-use Rattle.checker.specs.Operator.{prefixAt, infixAt, or, and}
+use Rattle.checker.specs.Operator.{prefixAt, infixAt}
 use Rattle.checker.specs.Property.{Property, undeclared, declared, onlyIf, propertyKinds}
 use Rattle.checker.specs.Kinds.{literalKind, wrongAt, after, gathered, placed, operated, nodeOf, kindsOf, kindsOfAll, takenBy, resultOf}
 use Rattle.checker.specs.Check.{answerOf}
@@ -48,9 +48,9 @@ use Rattle.checker.specs.declared.check.Verdict.{Verdict}
 use Rattle.checker.specs.declared.check.Verdict.the-variants.{Refused, Accepted}
 use Rattle.checker.specs.declared.check.Wanted.{Wanted}
 use Rattle.checker.specs.declared.check.Wanted.the-variants as wanted
-use Rattle.evaluator.specs.Eval.{isFault, valueIn, someFault, applied, Context, evalOf, evalOfAll}
-use Rattle.evaluator.specs.Demand.{Allowed, Worst, Variables, VariablesOf, plain, plainAll, isRefused, fails}
-use Rattle.evaluator.proofs.Law.Outcomes.{otherwise}
+use Rattle.evaluator.specs.Eval.{isFault, valueIn, someFault, applied, needOf, Context, evalOf, evalOfAll}
+use Rattle.evaluator.specs.Demand.{Allowed, Worst, Variables, VariablesOf, needsBoth, plain, plainAll, isRefused, fails}
+use Rattle.evaluator.proofs.Law.Outcomes.{both-needed}
 use Rattle.evaluator.proofs.Law.Variables.{both-variables, each-variable}
 use Rattle.evaluator.proofs.Sound.{never-fails}
 
@@ -224,9 +224,9 @@ module _ (c : Context) (look : ℕ → ℕ → Kinds) (literals : (p k : ℕ) �
     falls (variable p n) t h = h
     falls (unary p o e) t h = parts-fall (c .text) p (prefixAt o) (kindsOf look e ∷ []) (evalOf c e ∷ []) (falls e t h, tt)
     falls (binary p o l r) t h =
-        let alone = not (eqb o or || eqb o and) in
-        let sides = and-r alone (plain l && plain r) t in
-        rw (← otherwise (c .text) o (evalOf c l) (evalOf c r) (is-false (eqb o or || eqb o and) (T-not (eqb o or || eqb o and) (and-l alone (plain l && plain r) t))))
+        let need = needOf (infixAt o) in
+        let sides = and-r (needsBoth need) (plain l && plain r) t in
+        rw (both-needed (c .text) (infixAt o) need (evalOf c l) (evalOf c r) (and-l (needsBoth need) (plain l && plain r) t))
         (parts-fall (c .text) p (infixAt o) (kindsOf look l ∷ kindsOf look r ∷ []) (evalOf c l ∷ evalOf c r ∷ [])
         (falls l (and-l (plain l) (plain r) sides) (h .0), (falls r (and-r (plain l) (plain r) sides) (h .1), tt)))
     falls (conditional p q a b d) t h = absurd t

@@ -1,14 +1,18 @@
--- A literal's value is of the kind that the checker gives its form; and it depends only on the style's bytes from its place on, but for a string's place.
+-- What each literal word is; a literal's value is that of its token, and of the kind that the checker gives its form; and it depends only
+-- on the style's bytes from its place on, but for a string's place.
 use mathlib.Core.Path.{_≡_, refl, _∙_, ap}
-use mathlib.Core.Bool.{true}
+use mathlib.Core.Bool.{true, false}
 use mathlib.Core.List.{List, [], _∷_, map}
 use Prim.Native.Nat.{ℕ, zero, suc, _+_, _-_, _<_}
-use native.Mathlib.Nat.{add-assoc, suc-sub-suc, sub-zero}
+use native.Mathlib.Nat.{add-assoc, add-sub-cancel-left, suc-sub-suc, sub-zero}
 use native.Mathlib.Omega.{arith}
+use borrow.Author.Tests.{ne-eqb}
 use lib.Dec.{eqb·suc-zero, eqb·suc-suc}
+use lib.Ieee.{nan, inf}
 use lib.ListN.{length, getD, drop}
 use Rattle.kind.specs.declared.kind.Kind.the-variants as kind
-use Rattle.lexer.specs.Token.{lexemeAt}
+use Rattle.lexer.specs.Token.{literalWords, lexemeAt}
+use Rattle.lexer.specs.Tokens.{placed}
 use Rattle.lexer.specs.declared.token.Token.{Token}
 use Rattle.lexer.specs.declared.token.Token.the-variants as token
 use Rattle.lexer.specs.declared.token.Lexeme.{Lexeme}
@@ -17,9 +21,34 @@ use Rattle.lexer.proofs.Law.Ahead.{Ahead, ahead}
 use Rattle.lexer.proofs.Moved.{moved, lexeme-moved}
 use Rattle.value.specs.Value.{kindOf}
 use Rattle.value.specs.declared.value.Value.{Value}
-use Rattle.value.specs.declared.value.Value.the-variants.{Undefined, Number, String}
+use Rattle.value.specs.declared.value.Value.the-variants.{Undefined, Null, Boolean, Number, String}
+use Rattle.syntax.specs.Anchored.{IsLiteral, Read}
+use Rattle.syntax.specs.Anchored as anchored
 use Rattle.checker.specs.Kinds.{literalKind}
-use Rattle.evaluator.specs.Literal.{numberIn, tokenSpan, spanIn, wordValues, literalAt, movedSpan, movedValue}
+use Rattle.evaluator.specs.Literal.{numberIn, tokenSpan, spanIn, wordValues, tokenValue, formOfWord, literalAt, movedSpan, movedValue}
+
+-- ---- the literal words
+
+-- page 01's literal words, the kind of each and its value, which is the same wherever it stands
+pub literal-words : (style : List ℕ) (p : ℕ) →
+    (map (λ w. literalKind (formOfWord w)) literalWords ≡
+    kind.Boolean ∷ kind.Boolean ∷ kind.Null ∷ kind.Undefined ∷ kind.Number ∷ kind.Number ∷ []) ×
+    (map (λ w. literalAt style p (formOfWord w)) literalWords ≡
+    Boolean true ∷ Boolean false ∷ Null ∷ Undefined ∷ Number nan ∷ Number (inf false) ∷ [])
+unfolding literalAt
+literal-words style p = (refl, refl)
+
+-- ---- the token of a literal
+
+-- A literal is worth what the token at its place means: `judged-anchored` of the crate `syntax` finds it there.
+pub literal-token : (style : List ℕ) (p until : ℕ) {t : Token} {k : ℕ} → IsLiteral t k → Read style (placed t p until ∷ []) →
+    literalAt style p k ≡ tokenValue t p until
+unfolding literalAt
+literal-token style p until (anchored.number digits places) h = rw (h .0)
+literal-token style p until anchored.string h = rw (h .0)
+literal-token style p until (anchored.word k l) h = rw (ne-eqb (2 + k) 0 (omega arith), ne-eqb (2 + k) 1 (omega arith), add-sub-cancel-left 2 k)
+
+-- ---- kinds
 
 -- a value of a list is of the kind at its place among the values' kinds
 kind-at : (vs : List Value) (n : ℕ) → kindOf (getD vs n Undefined) ≡ getD (map kindOf vs) n kind.Undefined

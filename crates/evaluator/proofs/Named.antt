@@ -5,7 +5,7 @@ use Prim.Native.Nat.{ℕ}
 use Rattle.value.specs.Name.{functionAt, pickAt}
 use Rattle.tree.specs.Tree.{Tree, literal, variable, unary, binary, conditional, bare, call, pick, Arguments, last, next}
 use Rattle.checker.specs.Name.{resolved, resolvedAll}
-use Rattle.checker.specs.Operator.{prefixAt}
+use Rattle.checker.specs.Operator.{prefixAt, infixAt}
 use Rattle.evaluator.specs.Eval.{applied, branchOf, binaryOf, Context, evalOf, evalOfAll}
 
 module _ (c : Context) (number : ℕ → ℕ) where
@@ -19,7 +19,7 @@ module _ (c : Context) (number : ℕ → ℕ) where
     eval-resolved (literal p k) = refl
     eval-resolved (variable p n) = refl
     eval-resolved (unary p o e) = λ i. applied (c .text) (prefixAt o) (eval-resolved e i ∷ [])
-    eval-resolved (binary p o l r) = λ i. binaryOf (c .text) o (eval-resolved l i) (eval-resolved r i)
+    eval-resolved (binary p o l r) = λ i. binaryOf (c .text) (infixAt o) (eval-resolved l i) (eval-resolved r i)
     eval-resolved (conditional p q t a b) = λ i. branchOf (eval-resolved t i) (eval-resolved a i) (eval-resolved b i)
     eval-resolved (bare p f) = refl
     eval-resolved (call p f xs) = λ i. applied (c .text) (functionAt f) (all-eval-resolved xs i)

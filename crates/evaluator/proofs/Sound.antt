@@ -3,8 +3,7 @@ use mathlib.Core.Path.{_≡_, refl, sym, _∙_, ap, subst}
 use mathlib.Core.Bool.{Bool, true, false, cond, _&&_, true≢false}
 use mathlib.Core.List.{List, [], _∷_, map}
 use Prim.Native.Nat.{ℕ}
-use borrow.Author.Tests.{eqb-true}
-use lib.Dec.{T, eqb}
+use lib.Dec.{T}
 use lib.Ieee.Bits.{is-true}
 use lib.Ieee.Fits.{and-l, and-r}
 use Rattle.lexer.specs.Refusal.{Judged, refused, fine}
@@ -36,15 +35,17 @@ use Rattle.value.specs.declared.value.Value.{Value}
 use Rattle.value.specs.declared.value.Value.the-variants as value
 use Rattle.value.proofs.Kinded.{ruled, kinded}
 use Rattle.tree.specs.Tree.{Tree, literal, variable, unary, binary, conditional, bare, call, pick, Arguments, last, next}
-use Rattle.checker.specs.Operator.{prefixAt, infixAt, or, and}
+use Rattle.checker.specs.Operator.{prefixAt, infixAt}
 use Rattle.checker.specs.Kinds.{wrongAt, after, gathered, placed, operated, nodeOf, conditionalOf}
 use Rattle.checker.specs.Kinds.{literalKind, kindsOf, kindsOfAll, takenBy, resultOf}
 use Rattle.checker.specs.Check.{answerOf}
 use Rattle.checker.specs.declared.check.Verdict.{Verdict}
 use Rattle.checker.specs.declared.check.Verdict.the-variants.{Refused, Accepted}
 use Rattle.checker.specs.declared.check.Wanted.{Wanted}
-use Rattle.evaluator.specs.Eval.{valueIn, someFault, applied, branchOf, booleanOf, orOf, andOf, binaryOf, Context, evalOf, evalOfAll}
+use Rattle.evaluator.specs.Eval.{valueIn, someFault, applied, branchOf, booleanOf, orOf, andOf, needOf, binaryBy, binaryOf, Context, evalOf, evalOfAll}
 use Rattle.evaluator.specs.Demand.{Conforms, Variables, VariablesOf, isRefused, fails}
+use Rattle.evaluator.specs.declared.need.Need.{Need}
+use Rattle.evaluator.proofs.Law.Outcomes.{Told, is-or, is-and, is-other, told}
 
 -- ---- a verdict and an outcome go together
 
@@ -176,19 +177,15 @@ or-sound u l r h hl hr = branch-sound u l (Worked (value.Boolean true)) (boolean
 and-sound : (u : Kinds) (l r : Outcome) → T (has u Boolean) → Conforms (singleOf Boolean) l → Conforms (singleOf Boolean) r → Conforms u (andOf l r)
 and-sound u l r h hl hr = branch-sound u l (booleanOf r) (Worked (value.Boolean false)) hl (branch-sound u r _ _ hr h h) h
 
--- an operator by its punctuator
-binary-sound : (text : Span → List ℕ) (p o : ℕ) (a b : Verdict) (l r : Outcome) → Sound a l → Sound b r →
-    Sound (nodeOf p (infixAt o) (a ∷ b ∷ [])) (binaryOf text o l r)
-unfolding infixAt
-binary-sound text p o a b l r hl hr = go (eqb o or) (eqb o and) refl refl
+-- an operator by what it needs
+binary-sound : (text : Span → List ℕ) (p : ℕ) (found : Found) (a b : Verdict) (l r : Outcome) → Sound a l → Sound b r →
+    Sound (nodeOf p found (a ∷ b ∷ [])) (binaryOf text found l r)
+binary-sound text p found a b l r hl hr = go found (needOf found) (told found)
   where
-    at : ℕ → Outcome → Type 0
-    at n w = Sound (nodeOf p (infixAt n) (a ∷ b ∷ [])) w
-
-    go : (x y : Bool) → eqb o or ≡ x → eqb o and ≡ y → at o (cond x (orOf l r) (cond y (andOf l r) (applied text (infixAt o) (l ∷ r ∷ []))))
-    go true y e f = subst (λ (n : ℕ). at n (orOf l r)) (sym (eqb-true o or e)) (logic-sound (op.Logic Or) refl orOf or-sound p a b l r hl hr)
-    go false true e f = subst (λ (n : ℕ). at n (andOf l r)) (sym (eqb-true o and f)) (logic-sound (op.Logic And) refl andOf and-sound p a b l r hl hr)
-    go false false e f = node-sound text p (infixAt o) (a ∷ b ∷ []) (l ∷ r ∷ []) (hl, (hr, tt))
+    go : (found : Found) (n : Need) → Told found n → Sound (nodeOf p found (a ∷ b ∷ [])) (binaryBy n text found l r)
+    go _ _ is-or = logic-sound (op.Logic Or) refl orOf or-sound p a b l r hl hr
+    go _ _ is-and = logic-sound (op.Logic And) refl andOf and-sound p a b l r hl hr
+    go _ _ (is-other found) = node-sound text p found (a ∷ b ∷ []) (l ∷ r ∷ []) (hl, (hr, tt))
 
 -- ---- an expression
 
@@ -200,7 +197,7 @@ module _ (c : Context) (look : ℕ → ℕ → Kinds) (literals : (p k : ℕ) �
     sound (literal p k) h = subst (λ (j : Kind). T (has (singleOf (literalKind k)) j)) (sym (literals p k)) (in-single (literalKind k))
     sound (variable p n) h = h
     sound (unary p o e) h = node-sound (c .text) p (prefixAt o) (kindsOf look e ∷ []) (evalOf c e ∷ []) (sound e h, tt)
-    sound (binary p o l r) h = binary-sound (c .text) p o (kindsOf look l) (kindsOf look r) (evalOf c l) (evalOf c r) (sound l (h .0)) (sound r (h .1))
+    sound (binary p o l r) h = binary-sound (c .text) p (infixAt o) (kindsOf look l) (kindsOf look r) (evalOf c l) (evalOf c r) (sound l (h .0)) (sound r (h .1))
     sound (conditional p q t a b) h =
         conditional-sound p (kindsOf look t) (kindsOf look a) (kindsOf look b) (evalOf c t) (evalOf c a) (evalOf c b)
         (sound t (h .0)) (sound a (h .1)) (sound b (h .2))

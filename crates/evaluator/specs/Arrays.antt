@@ -7,6 +7,7 @@ use Rattle.value.specs.Value.{textIn}
 use Rattle.value.specs.declared.apply.Outcome.{Outcome}
 use Rattle.value.specs.declared.apply.Outcome.the-variants.{Worked}
 use Rattle.tree.specs.Node.{treeAt}
+use Rattle.syntax.specs.Sizes.{mostHeight}
 use Rattle.evaluator.specs.Literal.{literalAt}
 use Rattle.evaluator.specs.Values.{valueAt}
 use Rattle.evaluator.specs.Eval.{Context, evalOf}
@@ -20,10 +21,6 @@ arrayContext style feature spans floats base =
       literals = λ p k. literalAt style (base + p) k;
       variables = λ p n. Worked (valueAt spans floats n);
     }
-
--- "tree height 64"
-abbrev pub mostHeight : ℕ
-mostHeight = 64
 
 -- what the tree comes to whose root is at a place of the slots
 abbrev pub evalAt : List ℕ → List ℕ → List ℕ → List ℕ → List Float → ℕ → ℕ → Outcome

@@ -1,8 +1,8 @@
 -- What the theorems about checked expressions speak of: page 01, "Kinds and meaning" and "What each answer owes".
 use mathlib.Core.Path.{_≡_}
-use mathlib.Core.Bool.{Bool, true, false, not, _&&_, _||_}
+use mathlib.Core.Bool.{Bool, true, false, not, _&&_}
 use Prim.Native.Nat.{ℕ}
-use lib.Dec.{T, eqb}
+use lib.Dec.{T}
 use Rattle.lexer.specs.Refusal.{Judged, refused, fine}
 use Rattle.kind.specs.Set.{has}
 use Rattle.kind.specs.declared.set.Kinds.{Kinds}
@@ -12,10 +12,13 @@ use Rattle.value.specs.declared.apply.Outcome.the-variants.{Fault, Worked}
 use Rattle.value.specs.declared.value.Value.{Value}
 use Rattle.value.specs.declared.value.Value.the-variants.{Undefined, Null}
 use Rattle.tree.specs.Tree.{Tree, literal, variable, unary, binary, conditional, bare, call, pick, Arguments, last, next}
-use Rattle.checker.specs.Operator.{or, and}
+use Rattle.checker.specs.Operator.{infixAt}
 use Rattle.checker.specs.Property.{Property, undeclared, declared, propertyKinds}
 use Rattle.checker.specs.Kinds.{takenBy}
 use Rattle.checker.specs.declared.check.Wanted.{Wanted}
+use Rattle.evaluator.specs.Eval.{needOf}
+use Rattle.evaluator.specs.declared.need.Need.{Need}
+use Rattle.evaluator.specs.declared.need.Need.the-variants.{Both, UntilTrue, UntilFalse}
 
 -- ---- values that conform
 
@@ -55,12 +58,17 @@ unfoldable mutual
 
 -- ---- expressions without conditional, `&&` or `||`
 
+abbrev pub needsBoth : Need → Bool
+needsBoth Both = true
+needsBoth UntilTrue = false
+needsBoth UntilFalse = false
+
 abbrev mutual
   pub plain : Tree → Bool
   plain (literal p k) = true
   plain (variable p n) = true
   plain (unary p o e) = plain e
-  plain (binary p o l r) = not (eqb o or || eqb o and) && (plain l && plain r)
+  plain (binary p o l r) = needsBoth (needOf (infixAt o)) && (plain l && plain r)
   plain (conditional p q c a b) = false
   plain (bare p f) = true
   plain (call p f xs) = plainAll xs

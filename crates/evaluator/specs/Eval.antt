@@ -1,11 +1,12 @@
 -- What an expression means: page 01, "Kinds and meaning". A fault is where an operator, function or pick meets a kind or a count that it
 -- does not take.
-use mathlib.Core.Bool.{Bool, true, false, cond, _||_}
+use mathlib.Core.Bool.{Bool, true, false, cond, _&&_, _||_, Bool·beq}
 use mathlib.Core.List.{List, [], _∷_, map}
 use Prim.Native.Nat.{ℕ}
-use lib.Dec.{eqb}
 use Rattle.kind.specs.Kind.{eqKind}
 use Rattle.kind.specs.declared.kind.Kind.the-variants as kind
+use Rattle.kind.specs.declared.operation.Logic.the-variants.{Not, And, Or}
+use Rattle.kind.specs.declared.operation.Operation.the-variants as op
 use Rattle.value.specs.Value.{kindOf, truth}
 use Rattle.value.specs.Meaning.{meaning}
 use Rattle.value.specs.Name.{functionAt, pickAt}
@@ -17,7 +18,9 @@ use Rattle.value.specs.declared.value.Span.{Span}
 use Rattle.value.specs.declared.value.Value.{Value}
 use Rattle.value.specs.declared.value.Value.the-variants.{Undefined, Boolean}
 use Rattle.tree.specs.Tree.{Tree, literal, variable, unary, binary, conditional, bare, call, pick, Arguments, last, next}
-use Rattle.checker.specs.Operator.{prefixAt, infixAt, or, and}
+use Rattle.checker.specs.Operator.{prefixAt, infixAt}
+use Rattle.evaluator.specs.declared.need.Need.{Need}
+use Rattle.evaluator.specs.declared.need.Need.the-variants.{Both, UntilTrue, UntilFalse}
 
 -- ---- a node from its parts
 
@@ -56,8 +59,40 @@ orOf l r = branchOf l (Worked (Boolean true)) (booleanOf r)
 abbrev pub andOf : Outcome → Outcome → Outcome
 andOf l r = branchOf l (booleanOf r) (Worked (Boolean false))
 
-abbrev pub binaryOf : (Span → List ℕ) → ℕ → Outcome → Outcome → Outcome
-binaryOf text o l r = cond (eqb o or) (orOf l r) (cond (eqb o and) (andOf l r) (applied text (infixAt o) (l ∷ r ∷ [])))
+-- which sides of a binary operator are needed: all but `||` and `&&` need both
+abbrev pub needOf : Found → Need
+needOf (Known (op.Logic Or)) = UntilTrue
+needOf (Known (op.Logic And)) = UntilFalse
+needOf (Known (op.Logic Not)) = Both
+needOf (Known (op.Unary f)) = Both
+needOf (Known (op.Binary f)) = Both
+needOf (Known (op.Ternary f)) = Both
+needOf (Known (op.Order f)) = Both
+needOf (Known (op.Equality f)) = Both
+needOf (Known (op.Test f)) = Both
+needOf (Known (op.Constructor f)) = Both
+needOf (Known (op.Product f)) = Both
+needOf (Known (op.Pick m)) = Both
+needOf Unknown = Both
+
+abbrev pub binaryBy : Need → (Span → List ℕ) → Found → Outcome → Outcome → Outcome
+binaryBy Both text found l r = applied text found (l ∷ r ∷ [])
+binaryBy UntilTrue text found l r = orOf l r
+binaryBy UntilFalse text found l r = andOf l r
+
+abbrev pub binaryOf : (Span → List ℕ) → Found → Outcome → Outcome → Outcome
+binaryOf text found l r = binaryBy (needOf found) text found l r
+
+-- it came to that Boolean
+abbrev pub cameTo : Bool → Outcome → Bool
+cameTo b Fault = false
+cameTo b (Worked v) = eqKind kind.Boolean (kindOf v) && Bool·beq b (truth v)
+
+-- whether the right side is worked out, by what the left came to
+abbrev pub needsRight : Need → Outcome → Bool
+needsRight Both l = true
+needsRight UntilTrue l = cameTo false l
+needsRight UntilFalse l = cameTo true l
 
 -- ---- an expression
 
@@ -73,7 +108,7 @@ unfoldable mutual
   evalOf c (literal p k) = Worked (c .literals p k)
   evalOf c (variable p n) = c .variables p n
   evalOf c (unary p o e) = applied (c .text) (prefixAt o) (evalOf c e ∷ [])
-  evalOf c (binary p o l r) = binaryOf (c .text) o (evalOf c l) (evalOf c r)
+  evalOf c (binary p o l r) = binaryOf (c .text) (infixAt o) (evalOf c l) (evalOf c r)
   evalOf c (conditional p q t a b) = branchOf (evalOf c t) (evalOf c a) (evalOf c b)
   evalOf c (bare p f) = applied (c .text) (functionAt f) []
   evalOf c (call p f xs) = applied (c .text) (functionAt f) (evalOfAll c xs)

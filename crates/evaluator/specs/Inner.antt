@@ -1,22 +1,25 @@
 -- Definitions for private functions.
-use mathlib.Core.Bool.{Bool, cond, _||_}
+use mathlib.Core.Bool.{cond}
 use mathlib.Core.List.{List, [], _∷_}
 use Prim.Native.Nat.{ℕ, zero, suc}
-use lib.Dec.{eqb}
 use lib.Ieee.{Float}
 use Rattle.kind.specs.Kind.{eqKind}
 use Rattle.kind.specs.declared.kind.Kind.the-variants as kind
 use Rattle.value.specs.Value.{kindOf, truth, textIn}
 use Rattle.value.specs.Name.{functionAt}
+use Rattle.value.specs.declared.name.Found.{Found}
+use Rattle.value.specs.declared.value.Span.{Span}
 use Rattle.value.specs.declared.apply.Outcome.{Outcome}
 use Rattle.value.specs.declared.apply.Outcome.the-variants.{Fault, Worked}
 use Rattle.tree.specs.Tree.{Tree}
 use Rattle.tree.specs.Node.{argumentAt, treeAt, argumentsAt, mostCommas}
 use Rattle.tree.specs.declared.node.Argument.{Argument}
 use Rattle.tree.specs.declared.node.Argument.the-variants.{Last, Next}
-use Rattle.checker.specs.Operator.{or, and}
-use Rattle.evaluator.specs.Eval.{applied, branchOf, binaryOf, Context, evalOf, evalOfAll}
+use Rattle.checker.specs.Operator.{infixAt}
+use Rattle.evaluator.specs.Eval.{applied, branchOf, booleanOf, binaryOf, Context, evalOf, evalOfAll}
 use Rattle.evaluator.specs.Arrays.{arrayContext}
+use Rattle.evaluator.specs.declared.need.Need.{Need}
+use Rattle.evaluator.specs.declared.need.Need.the-variants.{Both, UntilTrue, UntilFalse}
 use Rattle.evaluator.specs.declared.truth.Truth.{Truth}
 use Rattle.evaluator.specs.declared.truth.Truth.the-variants as truth-of
 use Rattle.evaluator.specs.declared.arguments.Places.{Places}
@@ -34,14 +37,11 @@ testedOf (Worked v) = cond (eqKind kind.Boolean (kindOf v)) (cond (truth v) trut
 
 -- ---- binary operators
 
-abbrev pub isLogical : ℕ → Bool
-isLogical o = eqb o or || eqb o and
-
--- whether the left side, as it was tested, decides alone
-abbrev pub decidesBy : Truth → ℕ → Bool
-decidesBy truth-of.Fault o = isLogical o
-decidesBy truth-of.True o = eqb o or
-decidesBy truth-of.False o = eqb o and
+-- what it comes to where its right side was needed
+abbrev pub withRight : Need → (Span → List ℕ) → Found → Outcome → Outcome → Outcome
+withRight Both text found l r = applied text found (l ∷ r ∷ [])
+withRight UntilTrue text found l r = booleanOf r
+withRight UntilFalse text found l r = booleanOf r
 
 -- ---- where the arguments of a call stand
 
@@ -87,7 +87,7 @@ module _ (style feature slots spans : List ℕ) (floats : List Float) (frame : F
       applied (textIn style feature) (functionAt (x .function)) (evalOfAll context (argumentsAt tree mostCommas slots (x .arguments)))
 
   abbrev pub binaryAt : Operands → Outcome
-  binaryAt x = binaryOf (textIn style feature) (x .operator) (workedAt (x .left)) (workedAt (x .right))
+  binaryAt x = binaryOf (textIn style feature) (infixAt (x .operator)) (workedAt (x .left)) (workedAt (x .right))
 
   abbrev pub branchAt : Branches → Outcome
   branchAt x = branchOf (workedAt (x .test)) (workedAt (x .first)) (workedAt (x .second))

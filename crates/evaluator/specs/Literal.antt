@@ -8,12 +8,15 @@ use lib.ListN.{getD}
 use lib.Ieee.{Float, nan, inf}
 use Rattle.number.specs.Arithmetic.{nought}
 use Rattle.number.specs.Decimal.{valueOf}
-use Rattle.lexer.specs.Token.{lexemeAt}
+use Rattle.lexer.specs.Bytes.{placeIn}
+use Rattle.lexer.specs.Token.{literalWords, lexemeAt}
 use Rattle.lexer.specs.declared.token.Token.{Token}
 use Rattle.lexer.specs.declared.token.Token.the-variants as token
 use Rattle.lexer.specs.declared.token.Lexeme.{Lexeme}
 use Rattle.lexer.specs.declared.token.Lexeme.the-variants.{Found, Bad, End}
+use Rattle.tree.specs.Tree.{numberForm, stringForm, firstWordForm}
 use Rattle.value.specs.Value.{nowhere}
+use Rattle.syntax.specs.Symbol.{seen, formOf}
 use Rattle.value.specs.declared.value.Span.{Span}
 use Rattle.value.specs.declared.value.Value.{Value}
 use Rattle.value.specs.declared.value.Value.the-variants.{Undefined, Null, Boolean, Number, String, Vec2, Vec3, Vec4}
@@ -44,17 +47,29 @@ spanIn (Found t at end) = tokenSpan t at end
 spanIn (Bad at end) = nowhere
 spanIn End = nowhere
 
+-- the form that the grammar gives a literal word
+abbrev pub formOfWord : List ℕ → ℕ
+formOfWord w = formOf (seen (token.Word (placeIn literalWords w)) 0 0)
+
 -- `true`, `false`, `null`, `undefined`, `NaN`, `Infinity`
 abbrev pub wordValues : List Value
 wordValues = Boolean true ∷ Boolean false ∷ Null ∷ Undefined ∷ Number nan ∷ Number (inf false) ∷ []
 
--- The value of the literal at a place of the style, by its form: 0 a number, 1 a string, and from 2 on the literal words.
+-- what a token means as a literal, at a place up to an end; other tokens are none
+abbrev pub tokenValue : Token → ℕ → ℕ → Value
+tokenValue (token.Number digits places) at end = Number (valueOf false digits places)
+tokenValue token.String at end = String (tokenSpan token.String at end)
+tokenValue token.Variable at end = Undefined
+tokenValue (token.Word k) at end = getD wordValues k Undefined
+tokenValue (token.Punctuator k) at end = Undefined
+
+-- The value of the literal at a place of the style, by its form.
 unfoldable pub literalAt : List ℕ → ℕ → ℕ → Value
 unfolding lexemeAt valueOf
 literalAt style at form =
-    cond (eqb form 0) (Number (numberIn (lexemeAt style at)))
-    (cond (eqb form 1) (String (spanIn (lexemeAt style at)))
-    (getD wordValues (form - 2) Undefined))
+    cond (eqb form numberForm) (Number (numberIn (lexemeAt style at)))
+    (cond (eqb form stringForm) (String (spanIn (lexemeAt style at)))
+    (getD wordValues (form - firstWordForm) Undefined))
 
 -- ---- the literals of a text that lies in the style's
 

@@ -7,6 +7,9 @@ ghost use Rattle.evaluator.specs.Inner.{workedAt, calledAt, binaryAt, br
 use crate::arguments::Places;
 use crate::arguments::places_at;
 use crate::literal::literal;
+use crate::need::need_of;
+use crate::need::needs_right;
+use crate::need::with_right;
 use crate::operation::applied0;
 use crate::operation::applied1;
 use crate::operation::applied2;
@@ -14,8 +17,6 @@ use crate::operation::applied3;
 use crate::operation::applied4;
 use crate::truth::Truth;
 use crate::truth::boolean;
-use crate::truth::decides;
-use crate::truth::is_logical;
 use crate::truth::tested;
 use crate::values::value_at;
 use checker::operator::infix_at;
@@ -110,16 +111,14 @@ fn binary(
     ensures { λ r. ⌜ r ≡ binaryAt (now (style .entry)) (now (feature .entry)) (now (slots .entry))
         (now (spans .entry)) (now (floats .entry)) frame operands ⌝ }
 {
-    let operator = operands.operator;
+    let found = infix_at(operands.operator);
+    let need = need_of(found);
     let a = work(style, feature, slots, spans, floats, frame, operands.left);
-    if decides(operator, a) {
-        return boolean(a);
+    if needs_right(need, a) {
+        let b = work(style, feature, slots, spans, floats, frame, operands.right);
+        return with_right(style, feature, need, found, a, b);
     }
-    let b = work(style, feature, slots, spans, floats, frame, operands.right);
-    if is_logical(operator) {
-        return boolean(b);
-    }
-    applied2(style, feature, infix_at(operator), a, b)
+    boolean(a)
 }
 
 // The branch of a conditional that its test asks for.

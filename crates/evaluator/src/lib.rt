@@ -2,6 +2,7 @@
 mod arguments;
 pub mod evaluate;
 mod literal;
+pub mod need;
 pub mod operation;
 mod truth;
 pub mod values;

@@ -1,14 +1,12 @@
-// Tests, which have to be Booleans, and when the left side of a binary operator decides alone.
+// Tests, which have to be Booleans.
 ghost use mathlib.Core.Path.{_≡_};
+ghost use mathlib.Core.Bool.{cond};
 ghost use Rattle.value.specs.declared.apply.Outcome.the-variants.{Worked};
 ghost use Rattle.evaluator.specs.Eval.{booleanOf};
-ghost use Rattle.evaluator.specs.Inner.{testedOf, isLogical, decidesBy};
-use kind::kind::Kind;
-use kind::kind::is;
+ghost use Rattle.evaluator.specs.Inner.{testedOf};
+ghost use Rattle.evaluator.specs.declared.truth.Truth.the-variants.{True, False};
 use value::apply::Outcome;
 use value::value::Value;
-use value::value::is_true;
-use value::value::kind_of;
 
 // What a test comes to, which has to be a Boolean.
 pub(crate) enum Truth {
@@ -17,21 +15,24 @@ pub(crate) enum Truth {
     False,
 }
 
-const OR: usize = 2;
-
-const AND: usize = 3;
+fn of_boolean(b: bool) -> Truth
+    ensures { λ r. ⌜ r ≡ cond b True False ⌝ }
+{
+    if b { Truth::True } else { Truth::False }
+}
 
 fn tested_value(v: Value) -> Truth
     ensures { λ r. ⌜ r ≡ testedOf (Worked v) ⌝ }
 {
-    if is(Kind::Boolean, kind_of(v)) {
-        if is_true(v) {
-            Truth::True
-        } else {
-            Truth::False
-        }
-    } else {
-        Truth::Fault
+    match v {
+        Value::Undefined => Truth::Fault,
+        Value::Null => Truth::Fault,
+        Value::Boolean(b) => of_boolean(b),
+        Value::Number(_) => Truth::Fault,
+        Value::String(_) => Truth::Fault,
+        Value::Vec2(_, _) => Truth::Fault,
+        Value::Vec3(_, _, _) => Truth::Fault,
+        Value::Vec4(_, _, _, _) => Truth::Fault,
     }
 }
 
@@ -52,33 +53,5 @@ pub(crate) fn boolean(outcome: Outcome) -> Outcome
         Truth::Fault => Outcome::Fault,
         Truth::True => Outcome::Worked(Value::Boolean(true)),
         Truth::False => Outcome::Worked(Value::Boolean(false)),
-    }
-}
-
-pub(crate) fn is_logical(operator: usize) -> bool
-    ensures { λ r. ⌜ r ≡ isLogical operator ⌝ }
-{
-    (operator == OR) | (operator == AND)
-}
-
-// Whether the left side of a binary operator, as it was tested, decides alone.
-fn decided_by(truth: Truth, operator: usize) -> bool
-    ensures { λ r. ⌜ r ≡ decidesBy truth operator ⌝ }
-{
-    match truth {
-        Truth::Fault => is_logical(operator),
-        Truth::True => operator == OR,
-        Truth::False => operator == AND,
-    }
-}
-
-// The same of what it comes to. An operator that is not logical needs no test.
-pub(crate) fn decides(operator: usize, left: Outcome) -> bool
-    ensures { λ r. ⌜ r ≡ decidesBy (testedOf left) operator ⌝ }
-{
-    if is_logical(operator) {
-        decided_by(tested(left), operator)
-    } else {
-        false
     }
 }

@@ -3,7 +3,7 @@ ghost use Prim.Native.Nat.{_≤_};
 ghost use lib.ListN.{length};
 use crate::input;
 use crate::writer;
-use painter::apply::apply;
+use painter::given::given;
 use painter::print;
 use plan::layout::FLOATS;
 use plan::layout::Floats;
@@ -48,8 +48,8 @@ fn line(
 ) -> usize
     ensures { λ r. ⌜ r ≤ length (now (out .entry)) ⌝ }
 {
-    let answer = apply(head, plan, slots, feature, number, out, spans, floats);
-    print::line(answer, number, out)
+    let drawn = given(head, plan, slots, feature, number, spans, floats);
+    print::line(drawn, number, out)
 }
 
 // How many bytes wait with the next line behind the others.

@@ -1,10 +1,12 @@
 // The output of an input, made by the functions that check a head and that paint a feature.
 ghost use Prim.Native.Nat.{_≤_};
 ghost use lib.ListN.{length};
+use lexer::bytes::least;
+use output::line::refused_feature;
 use output::line::refused_head;
 use output::page;
+use painter::answer::Painted;
 use painter::paint::paint;
-use painter::print;
 use style::check::Checked;
 use style::check::LineRefusal;
 use style::check::check;
@@ -15,8 +17,10 @@ use text::part;
 fn line(head: &[u8], feature: &[u8], number: usize, slots: &mut [u16], out: &mut [u8]) -> usize
     ensures { λ r. ⌜ r ≤ length (now (out .entry)) ⌝ }
 {
-    let answer = paint(head, feature, number, out, slots);
-    print::line(answer, number, out)
+    match paint(head, feature, number, out, slots) {
+        Painted::Refused(r) => refused_feature(out, number, r.refusal.number, r.refusal.place),
+        Painted::Painted { given: _, bytes } => least(bytes, out.len()),
+    }
 }
 
 // Where the lines of all features end, which begin behind the heading.

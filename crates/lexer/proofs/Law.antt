@@ -4,4 +4,5 @@ pub mod Forms
 pub mod Ahead
 pub mod Scanning
 pub mod Spelling
+pub mod Plain
 pub mod Texts

@@ -8,7 +8,7 @@ use native.Mathlib.Omega.{arith}
 use lib.Dec.{eqb, leb}
 use lib.ListN.{length, take, drop}
 use lib.Seq.{drop-drop}
-use Rattle.number.specs.Decimal.{wholePart, fraction, joined, withPoint, readAt}
+use Rattle.number.specs.Decimal.{wholePart, fraction, joined, withPoint, mostDigits, readAt}
 use Rattle.number.specs.declared.decimal.Decimal.{Decimal}
 use Rattle.number.specs.declared.decimal.Decimal.the-variants as decimal
 use Rattle.lexer.specs.Bytes.{isSpace, isNameByte, isNameLength, inClass, run, begins, placeIn}
@@ -71,7 +71,7 @@ read-moved text base at =
     let e : base + at + length w + withPoint (length f) ≡ base + (at + length w + withPoint (length f)) = omega arith in
     rw (← drop-drop at base text)
     (decimal-moved base (at + length w + withPoint (length f)) (base + at + length w + withPoint (length f)) (joined 0 (w ++ f)) (length f)
-    (eqb (length w) 0) (leb (length w + length f) 15) e)
+    (eqb (length w) 0) (leb (length w + length f) mostDigits) e)
 
 -- ---- each form, from the same bytes
 

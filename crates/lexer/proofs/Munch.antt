@@ -1,37 +1,37 @@
 -- `lexemeAt` finds the longest token by page 01's grammar, `Munch`.
 use mathlib.Core.Path.{_≡_, refl, sym, _∙_, ap, subst}
 use mathlib.Core.Bool.{Bool, true, _&&_, false≢true, and-false, and-eq-true-iff}
-use mathlib.Core.List.{List, [], _∷_, _++_, append-nil, nil≢cons, List·Memᴰ}
+use mathlib.Core.List.{List, [], _∷_, _++_, nil≢cons, List·Memᴰ}
 use mathlib.Core.Logic.{_⊎_, inl, inr}
 use Prim.Native.Nat.{ℕ, suc, _+_, _-_, _≤_, _<_}
-use native.Mathlib.Nat.{add-zero, add-sub-cancel-left}
+use native.Mathlib.Nat.{add-sub-cancel-left}
 use native.Mathlib.Omega.{arith}
 use borrow.Author.Tests.{eq-eqb, ltb-true, ltb-false}
 use lib.Dec.{T, leb, ltb}
 use lib.Ieee.Bits.{is-true}
 use lib.ListN.{length, getD, take, drop, length-drop}
-use lib.Seq.{length-take-le, take-add, take-all, drop-drop, drop-append-seam, drop-cons}
-use Rattle.number.specs.Decimal.{wholePart, fraction, joined, withPoint, readAt, IsNumber}
+use lib.Seq.{length-take-le, take-add, take-all, take-append-seam, drop-drop, drop-append-seam, drop-cons}
+use Rattle.number.specs.Decimal.{readAt, IsNumber}
 use Rattle.number.specs.Decimal as decimals
 use Rattle.number.specs.declared.decimal.Decimal.{Decimal}
-use Rattle.number.proofs.Law.Reading.{wholeAt, fractionAt, read-cases}
+use Rattle.number.specs.declared.decimal.Decimal.the-variants as decimal
 use Rattle.number.proofs.Longest as numbers
-use Rattle.number.proofs.Longest.{size, number-parts, whole-digit}
+use Rattle.number.proofs.Longest.{number-first}
 use Rattle.lexer.specs.Bytes.{isSpace, isQuote, isWordStart, isNameByte, isNameLength, inClass, run, begins, placeIn}
 use Rattle.lexer.specs.Punctuator.{punctuators, refusedOperators, longestOf, judged}
 use Rattle.lexer.specs.Token.{literalWords, stringAt, variableAt, wordAt, lexemeOf, punctuatorAt, Start, quote, dollar, letter, other, startingAt, otherAt, numberOr, firstAt, lexemeAt}
-use Rattle.lexer.specs.Spelling.{All, IsDecimal, whole, pointed, Spells, number, string, variable, word, punctuator, Refuses, long-number, refused-operator, NoLonger, SpacesUpTo, Munch}
+use Rattle.lexer.specs.Spelling.{All, Spells, number, string, variable, word, punctuator, Refuses, long-number, refused-operator, NoLonger, SpacesUpTo, Munch}
 use Rattle.lexer.specs.declared.bytes.Class.the-variants.{Inside}
 use Rattle.lexer.specs.declared.punctuator.Spelled.{Spelled}
 use Rattle.lexer.specs.declared.token.Token.{Token}
-use Rattle.lexer.specs.declared.token.Token.the-variants.{String, Variable, Word, Punctuator}
+use Rattle.lexer.specs.declared.token.Token.the-variants.{Number, String, Variable, Word, Punctuator}
 use Rattle.lexer.specs.declared.token.Lexeme.{Lexeme}
 use Rattle.lexer.specs.declared.token.Lexeme.the-variants.{Found, Bad, End}
 use Rattle.lexer.proofs.Longest.{Longest, longest}
 use Rattle.lexer.proofs.Law.Runs.{by-test, run-cons, run-le}
 use Rattle.lexer.proofs.Law.Forms.{start-cases, start-byte}
 use Rattle.lexer.proofs.Law.Ahead.{Ahead, ahead}
-use Rattle.lexer.proofs.Law.Spelling.{run-over, run-all, run-ends, begins-over, begins-take, closed-run, closed-take, slice-is, place-mem, not-first, starts-digit, punctuator-first, Form, limited}
+use Rattle.lexer.proofs.Law.Spelling.{run-over, run-all, run-ends, begins-over, begins-take, closed-run, closed-take, slice-is, place-mem, not-first, starts-digit, punctuator-first, Numeral, Form, limited}
 
 -- ---- what stands at a place, from the bytes there
 
@@ -142,7 +142,7 @@ punctuator-here at b bs l = punctuator-judged at b bs (longestOf (punctuators ++
 
 -- ---- by the first byte
 
-other-here : (at b : ℕ) (bs : List ℕ) → ((p q : List ℕ) → p ++ q ≡ b ∷ bs → IsNumber p → length p ≤ 0) → Here at (b ∷ bs) (otherAt at b bs)
+other-here : (at b : ℕ) (bs : List ℕ) → ((p q : List ℕ) → p ++ q ≡ b ∷ bs → Numeral p → length p ≤ 0) → Here at (b ∷ bs) (otherAt at b bs)
 unfolding otherAt
 other-here at b bs none =
     start-cases (λ (s : Start). Limit s b bs → Here at (b ∷ bs) (startingAt s at b bs)) b (string-here b bs at) (variable-here b bs at) (word-here at b bs) (punctuator-here at b bs)
@@ -150,36 +150,26 @@ other-here at b bs none =
 
 -- ---- numbers
 
-decimal-is : (bs : List ℕ) → 0 < length (wholePart bs) →
-    let f = fraction (drop (length (wholePart bs)) bs) in IsDecimal (take (size bs) bs) (joined 0 (wholePart bs ++ f)) (length f) (length (wholePart bs) + length f)
-decimal-is bs =
-    number-parts (λ s w f. IsDecimal s (joined 0 (w ++ f)) (length f) (length w + length f)) bs (λ w h. rw (append-nil w, add-zero (length w)) (whole h)) (λ w f h d. pointed w f h d)
-
 -- where a number begins nothing else does
-number-limit : (b : ℕ) (bs : List ℕ) (n : ℕ) → 0 < length (wholePart (b ∷ bs)) → ((p q : List ℕ) → p ++ q ≡ b ∷ bs → IsNumber p → length p ≤ n) → NoLonger n (b ∷ bs)
-number-limit b bs n h k =
-    let d = whole-digit b bs h in
-    limited b bs n k (λ m f. (let g : Form other b bs m = subst (λ (s : Start). Form s b bs m) (starts-digit b d) f in
-    absurd (false≢true (sym (punctuator-first (g .0) (g .1) b bs (g .2) (g .3) .0) ∙ d))))
+number-limit : (b : ℕ) (bs s : List ℕ) {n k d : ℕ} → decimals.LongestNumber (b ∷ bs) s n k d → NoLonger (length s) (b ∷ bs)
+number-limit b bs s l =
+    let digit = number-first (l .is-number) (l .rest) b bs (l .begins) in
+    limited b bs (length s) (λ p q e i. l .none-longer p q (i .0) (i .1) (i .2) e (i .3))
+    (λ m f. (let g : Form other b bs m = subst (λ (t : Start). Form t b bs m) (starts-digit b digit) f in
+    absurd (false≢true (sym (punctuator-first (g .0) (g .1) b bs (g .2) (g .3) .0) ∙ digit))))
 
-module _ (text : List ℕ) (at b : ℕ) (bs : List ℕ) (h : drop at text ≡ b ∷ bs) where
-  abbrev n : ℕ
-  n = at + length (wholeAt text at) + withPoint (length (fractionAt text at)) - at
+number-taken : (rest s : List ℕ) {n k d : ℕ} → decimals.LongestNumber rest s n k d → IsNumber (take (length s) rest) n k d
+number-taken rest s {n} {k} {d} l =
+    subst (λ (p : List ℕ). IsNumber p n k d) (sym (take-append-seam s (l .rest)) ∙ ap (take (length s)) (l .begins)) (l .is-number)
 
-  number-taken : 0 < length (wholeAt text at) → ((p q : List ℕ) → p ++ q ≡ drop at text → IsNumber p → length p ≤ n) →
-      IsDecimal (take n (b ∷ bs)) (joined 0 (wholeAt text at ++ fractionAt text at)) (length (fractionAt text at)) (length (wholeAt text at) + length (fractionAt text at))
-      × NoLonger n (b ∷ bs)
-  number-taken some k =
-      let all : n ≡ size (drop at text) = omega arith in
-      (rw (all, ← h) (decimal-is (drop at text) some), number-limit b bs n (subst (λ (l : List ℕ). 0 < length (wholePart l)) h some) (λ p q e. k p q (e ∙ sym h)))
-
-  number-here : Here at (b ∷ bs) (numberOr (readAt text at) at b bs)
-  number-here =
-      read-cases (λ (d : Decimal). decimals.Longest text at d → Here at (b ∷ bs) (numberOr d at b bs)) text at
-      (λ none l. other-here at b bs (λ p q e. l .none-longer p q (e ∙ sym h)))
-      (λ some few l. (let r = number-taken some (l .none-longer) in (refl, number (r .0) few, r .1)))
-      (λ some many l. (let r = number-taken some (l .none-longer) in (refl, inl (long-number (r .0) many, r .1))))
-      (numbers.longest text at)
+number-here : (at b : ℕ) (bs text : List ℕ) (d : Decimal) → drop at text ≡ b ∷ bs → decimals.Longest text at d → Here at (b ∷ bs) (numberOr d at b bs)
+number-here at b bs text decimal.Nothing e l = other-here at b bs (λ p q i h. absurd (l p q (h .0) (h .1) (h .2) (i ∙ sym e) (h .3)))
+number-here at b bs text (decimal.Number end n k) e (s, d, l, ends, few) =
+    let here : decimals.LongestNumber (b ∷ bs) s n k d = rw e at l in
+    rw ends (found at (b ∷ bs) (length s) (Number n k) (number (number-taken (b ∷ bs) s here) few) (number-limit b bs s here))
+number-here at b bs text (decimal.TooLong end) e (s, n, k, d, l, ends, many) =
+    let here : decimals.LongestNumber (b ∷ bs) s n k d = rw e at l in
+    rw ends (refused at (b ∷ bs) (length s) (long-number (number-taken (b ∷ bs) s here) many) (number-limit b bs s here))
 
 -- ---- after spaces
 
@@ -210,7 +200,7 @@ module _ (text : List ℕ) (from : ℕ) where
       let n = run isSpace (drop from text) in
       let short : length (drop from text) ≤ n = omega (arith, ap length (rest-is ∙ e), length-drop n (drop from text)) in
       subst (All isSpace) (take-all n (drop from text) short) (run-all isSpace (drop from text))
-  first-munch (b ∷ bs) e w = munched text from at (numberOr (readAt text at) at b bs) (up-to b bs e) w (rw e (number-here text at b bs e))
+  first-munch (b ∷ bs) e w = munched text from at (numberOr (readAt text at) at b bs) (up-to b bs e) w (rw e (number-here at b bs text (readAt text at) e (numbers.longest text at)))
 
 pub munch : (text : List ℕ) (from : ℕ) → Munch text from (lexemeAt text from)
 unfolding lexemeAt

@@ -11,11 +11,11 @@ use lib.Dec.{leb, ltb}
 use lib.Ieee.Bits.{is-true}
 use lib.ListN.{length, getD, take, drop, length-drop, take-append-drop}
 use lib.Seq.{slice, length-slice, take-append-seam, drop-append-seam, drop-drop, drop-cons}
-use Rattle.number.specs.Decimal.{isDigit, joined, Digits⁺, IsWholePart, nought, counted}
+use Rattle.number.specs.Decimal.{isDigit, joined, mostDigits, Digits⁺, IsWholePart, nought, counted, IsNumber, whole, pointed}
 use Rattle.lexer.specs.Bytes.{isSpace, isQuote, run, placeIn}
 use Rattle.lexer.specs.Punctuator.{punctuators, refusedOperators}
 use Rattle.lexer.specs.Token.{literalWords, Start, quote, dollar, letter, other, startOf, lexemeAt}
-use Rattle.lexer.specs.Spelling.{All, IsDecimal, whole, pointed, Spells, number, string, variable, word, punctuator, Refuses, long-number, refused-operator, NoLonger, SpacesUpTo, Munch}
+use Rattle.lexer.specs.Spelling.{All, Spells, number, string, variable, word, punctuator, Refuses, long-number, refused-operator, NoLonger, SpacesUpTo, Munch}
 use Rattle.lexer.specs.declared.token.Token.{Token}
 use Rattle.lexer.specs.declared.token.Token.the-variants.{Number, String, Variable, Word, Punctuator}
 use Rattle.lexer.specs.declared.token.Lexeme.{Lexeme}
@@ -42,7 +42,7 @@ module _ (at : ℕ) where
 
   -- digits, and those after a point
   abbrev decimal : List ℕ → List ℕ → ℕ → Lexeme
-  decimal w f n = ruled (leb (length w + length f) 15) (Number (joined 0 (w ++ f)) (length f)) n
+  decimal w f n = ruled (leb (length w + length f) mostDigits) (Number (joined 0 (w ++ f)) (length f)) n
 
   abbrev started : Start → List ℕ → Lexeme
   started quote s = ruled true String (length s)
@@ -66,13 +66,13 @@ module _ (at : ℕ) where
       let n : run isDigit (b ∷ bs ++ r) ≡ suc (length bs) = omega (arith, run-over isDigit (b ∷ bs) r h) in
       (omega arith, rw (is-true (isDigit b) (h .0), n, take-append-seam bs r, drop-append-seam bs r))
 
-  decimal-read : {s : List ℕ} {n k d : ℕ} → IsDecimal s n k d → Reads s (ruled (leb d 15) (Number n k) (length s))
+  decimal-read : {s : List ℕ} {n k d : ℕ} → IsNumber s n k d → Reads s (ruled (leb d mostDigits) (Number n k) (length s))
   unfolding run
   decimal-read (whole {w} h) =
-      of-whole h (λ (s : List ℕ). Reads s (ruled (leb (length s) 15) (Number (joined 0 s) 0) (length s)))
+      of-whole h (λ (s : List ℕ). Reads s (ruled (leb (length s) mostDigits) (Number (joined 0 s) 0) (length s)))
       (λ b bs a. rw (append-nil bs, add-zero (suc (length bs))) at (digits-read b bs [] a refl))
   decimal-read (pointed w f h d) =
-      of-whole h (λ (s : List ℕ). Reads (s ++ 46 ∷ f) (ruled (leb (length s + length f) 15) (Number (joined 0 (s ++ f)) (length f)) (length (s ++ 46 ∷ f))))
+      of-whole h (λ (s : List ℕ). Reads (s ++ 46 ∷ f) (ruled (leb (length s + length f) mostDigits) (Number (joined 0 (s ++ f)) (length f)) (length (s ++ 46 ∷ f))))
       (λ b bs a. digits-read b bs (46 ∷ f) a (run-nil isDigit 46 f refl))
 
   -- every other token shows by its first byte
@@ -88,14 +88,14 @@ module _ (at : ℕ) where
   punctuator-read (b ∷ bs) m = let h = punctuator-first (b ∷ bs) [] b (bs ++ []) m refl in (omega arith, rw (h .0, h .1))
 
   spelled-read : {s : List ℕ} {t : Token} → Spells s t → Reads s (Found t at (at + length s))
-  spelled-read (number {s} {n} {k} {d} i h) = rw (le-leb d 15 h) at (decimal-read i)
+  spelled-read (number {s} {n} {k} {d} i h) = rw (le-leb d mostDigits h) at (decimal-read i)
   spelled-read (string q bs h a) = (omega arith, start-read quote q (bs ++ q ∷ []) (rw (is-true (isQuote q) h)) refl)
   spelled-read (variable bs a h) = (omega arith, refl)
   spelled-read (word b bs h a) = (omega arith, start-read letter b bs (starts-letter b (is-true _ h)) refl)
   spelled-read (punctuator {s} m) = rw (lt-ltb _ _ (mem-place punctuators s m)) at (punctuator-read s (Memᴰ·append-left refusedOperators m))
 
   refused-read : {s : List ℕ} → Refuses s → Reads s (Bad at (at + length s))
-  refused-read (long-number {s} {n} {k} {d} i h) = rw (lt-leb d 15 h) at (decimal-read i)
+  refused-read (long-number {s} {n} {k} {d} i h) = rw (lt-leb d mostDigits h) at (decimal-read i)
   refused-read (refused-operator {s} m) =
       let none : ltb (placeIn punctuators s) (length punctuators) ≡ false = not-true _ (of-all (λ l. not (ltb (placeIn punctuators l) (length punctuators))) refusedOperators s refl m) in
       rw none at (punctuator-read s (Memᴰ·append-right punctuators m))

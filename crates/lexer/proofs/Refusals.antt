@@ -7,7 +7,7 @@ use Prim.Native.Nat.{ℕ, suc, _-_}
 use lib.Dec.{ltb}
 use Rattle.lexer.specs.Refusal.{refusalAt, Judged, refused, fine}
 use Rattle.lexer.specs.Tokens.{Placed, placed, Lexed, tokens, badAt, tokensOf}
-use Rattle.lexer.specs.Scan.{bracketOf, bracketsIn, verdictOf, scanOf}
+use Rattle.lexer.specs.Scan.{mostOpen, bracketOf, bracketsIn, verdictOf, scanOf}
 use Rattle.lexer.specs.declared.scan.Bracket.{Bracket}
 use Rattle.lexer.specs.declared.scan.Bracket.the-variants.{Opens, Closes, Neither}
 
@@ -19,7 +19,7 @@ With n (refused r) = r .number ≡ n
 brackets-with : (n : ℕ) (ts : List Placed) → With 3 (bracketsIn n ts)
 unfolding bracketsIn
 brackets-with n [] = tt
-brackets-with n (placed t at end ∷ ts) = go (bracketOf t) (ltb n 32) (brackets-with (suc n) ts) (brackets-with (n - 1) ts) (brackets-with n ts)
+brackets-with n (placed t at end ∷ ts) = go (bracketOf t) (ltb n mostOpen) (brackets-with (suc n) ts) (brackets-with (n - 1) ts) (brackets-with n ts)
   where
     go : (b : Bracket) (w : Bool) → With 3 (bracketsIn (suc n) ts) → With 3 (bracketsIn (n - 1) ts) → With 3 (bracketsIn n ts) →
         With 3 (elim b [ Opens ↦ elim w [ true ↦ bracketsIn (suc n) ts | false ↦ refused (refusalAt 3 at) ] | Closes ↦ bracketsIn (n - 1) ts | Neither ↦ bracketsIn n ts ])

@@ -9,6 +9,10 @@ use Rattle.number.specs.Decimal.{isDigit}
 use Rattle.lexer.specs.declared.bytes.Class.{Class}
 use Rattle.lexer.specs.declared.bytes.Class.the-variants.{Space, Name, Inside}
 
+-- "bytes 0x20 to 0x7E"
+abbrev pub isPrintable : ℕ → Bool
+isPrintable b = leb 0x20 b && leb b 0x7E
+
 abbrev pub isSpace : ℕ → Bool
 isSpace b = eqb b 32
 
@@ -25,8 +29,11 @@ abbrev pub isNameByte : ℕ → Bool
 isNameByte b = (isLetter b || isDigit b) || eqb b 95
 
 -- "Names are 1 to 64 letters, digits and underscores."
+abbrev pub longestName : ℕ
+longestName = 64
+
 abbrev pub isNameLength : ℕ → Bool
-isNameLength n = leb 1 n && leb n 64
+isNameLength n = leb 1 n && leb n longestName
 
 -- "A word is a letter or underscore, then letters, digits or underscores"
 abbrev pub isWordStart : ℕ → Bool

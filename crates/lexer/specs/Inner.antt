@@ -3,7 +3,7 @@ use mathlib.Core.Bool.{true, false, cond}
 use Prim.Native.Nat.{ℕ, _+_, _-_}
 use lib.Dec.{ltb}
 use Rattle.lexer.specs.Refusal.{refusalAt, Judged, refused, fine}
-use Rattle.lexer.specs.Scan.{bracketOf}
+use Rattle.lexer.specs.Scan.{mostOpen, bracketOf}
 use Rattle.lexer.specs.declared.token.Token.{Token}
 use Rattle.lexer.specs.declared.scan.Bracket.{Bracket}
 use Rattle.lexer.specs.declared.scan.Bracket.the-variants.{Opens, Closes, Neither}
@@ -14,7 +14,7 @@ abbrev pub noneOver : ℕ → Brackets
 noneOver n = record { count = n; over = false; place = 0 }
 
 abbrev pub openedAt : Brackets → ℕ → Brackets
-openedAt seen at = cond (ltb (seen .count) 32) (noneOver (seen .count + 1)) (record { count = seen .count; over = true; place = at })
+openedAt seen at = cond (ltb (seen .count) mostOpen) (noneOver (seen .count + 1)) (record { count = seen .count; over = true; place = at })
 
 abbrev pub closedBy : Brackets → Brackets
 closedBy seen = noneOver (seen .count - 1)

@@ -16,6 +16,31 @@ punctuators =
     ∷ ascii "*" ∷ ascii "/" ∷ ascii "%" ∷ ascii "!" ∷ ascii "(" ∷ ascii ")"
     ∷ ascii "[" ∷ ascii "]" ∷ ascii "," ∷ ascii "." ∷ []
 
+-- the numbers of a conditional's two, the brackets, the comma and the dot
+abbrev pub question : ℕ
+question = placeIn punctuators (ascii "?")
+
+abbrev pub colon : ℕ
+colon = placeIn punctuators (ascii ":")
+
+abbrev pub openRound : ℕ
+openRound = placeIn punctuators (ascii "(")
+
+abbrev pub closeRound : ℕ
+closeRound = placeIn punctuators (ascii ")")
+
+abbrev pub openSquare : ℕ
+openSquare = placeIn punctuators (ascii "[")
+
+abbrev pub closeSquare : ℕ
+closeSquare = placeIn punctuators (ascii "]")
+
+abbrev pub comma : ℕ
+comma = placeIn punctuators (ascii ",")
+
+abbrev pub dot : ℕ
+dot = placeIn punctuators (ascii ".")
+
 -- "`--` and `++` are refused with 2, as are `==`, `!=`, `=~`"
 abbrev pub refusedOperators : List (List ℕ)
 refusedOperators = ascii "--" ∷ ascii "++" ∷ ascii "==" ∷ ascii "!=" ∷ ascii "=~" ∷ []
@@ -37,7 +62,9 @@ longestOf (s ∷ ss) text = longerIf (begins s text) s (longestOf ss text)
 -- What the longest is. A text that begins with none has a byte there that is not listed, as "a lone `&`" or one outside 0x20 to 0x7E.
 abbrev pub judged : List ℕ → Spelled
 judged [] = Refused 1
-judged (b ∷ bs) = cond (ltb (placeIn punctuators (b ∷ bs)) (length punctuators)) (Listed (placeIn punctuators (b ∷ bs)) (length (b ∷ bs))) (Refused (length (b ∷ bs)))
+judged (b ∷ bs) =
+    let n = placeIn punctuators (b ∷ bs) in
+    cond (ltb n (length punctuators)) (Listed n (length (b ∷ bs))) (Refused (length (b ∷ bs)))
 
 unfoldable pub spelledBy : List ℕ → Spelled
 spelledBy text = judged (longestOf (punctuators ++ refusedOperators) text)

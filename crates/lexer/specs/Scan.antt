@@ -3,6 +3,7 @@ use mathlib.Core.Bool.{true, false, cond}
 use mathlib.Core.List.{List, [], _∷_}
 use Prim.Native.Nat.{ℕ, suc, _-_}
 use lib.Dec.{eqb, ltb}
+use Rattle.lexer.specs.Punctuator.{openRound, closeRound}
 use Rattle.lexer.specs.Refusal.{refusalAt, Judged, refused, fine}
 use Rattle.lexer.specs.Tokens.{Placed, placed, Lexed, tokens, badAt, tokensFrom, tokensOf}
 use Rattle.lexer.specs.declared.token.Token.{Token}
@@ -12,9 +13,8 @@ use Rattle.lexer.specs.declared.scan.Bracket.the-variants.{Opens, Closes
 use Rattle.lexer.specs.declared.scan.Verdict.{Verdict}
 use Rattle.lexer.specs.declared.scan.Verdict.the-variants.{Fine, Refused}
 
--- `(` is the punctuator 16 and `)` is the punctuator 17
 abbrev pub punctuatorBracket : ℕ → Bracket
-punctuatorBracket k = cond (eqb k 16) Opens (cond (eqb k 17) Closes Neither)
+punctuatorBracket k = cond (eqb k openRound) Opens (cond (eqb k closeRound) Closes Neither)
 
 -- what a token does to the round brackets that are open
 abbrev pub bracketOf : Token → Bracket
@@ -24,12 +24,15 @@ bracketOf Variable = Neither
 bracketOf (Word k) = Neither
 bracketOf (Punctuator k) = punctuatorBracket k
 
--- "32 round brackets open at once (a `)` with none open changes nothing)": where the first stands that is the 33rd, when n are open before
--- these tokens
+-- "32 round brackets open at once"
+abbrev pub mostOpen : ℕ
+mostOpen = 32
+
+-- "a `)` with none open changes nothing": where the first bracket stands that is one too many, when n are open before these tokens
 unfoldable pub bracketsIn : ℕ → List Placed → Judged (Unit {0})
 bracketsIn n [] = fine tt
 bracketsIn n (placed t at end ∷ ts) = elim (bracketOf t) [
-  | Opens ↦ elim (ltb n 32) [ true ↦ bracketsIn (suc n) ts | false ↦ refused (refusalAt 3 at) ]
+  | Opens ↦ elim (ltb n mostOpen) [ true ↦ bracketsIn (suc n) ts | false ↦ refused (refusalAt 3 at) ]
   | Closes ↦ bracketsIn (n - 1) ts
   | Neither ↦ bracketsIn n ts
 ]

@@ -1,5 +1,6 @@
 -- Tokens as page 01's "Tokens and grammar" has them, sentence by sentence: which bytes spell which token, and what "Longest match" says of
--- a place. `lexemeAt` meets it, and nothing else does: `munch` in proofs/Munch.antt, `only` in proofs/Only.antt.
+-- a place. `lexemeAt` meets it, and nothing else does: `munch` in proofs/Munch.antt, `only` in proofs/Only.antt. "Outside strings only
+-- bytes 0x20 to 0x7E" follows from it: proofs/Printable.antt.
 use mathlib.Core.Path.{_≡_}
 use mathlib.Core.Bool.{Bool, false}
 use mathlib.Core.List.{List, [], _∷_, _++_, List·Memᴰ}
@@ -8,8 +9,8 @@ use Prim.Native.Nat.{ℕ, _+_, _-_, _≤_, _<_}
 use lib.Dec.{T}
 use lib.ListN.{length, getD, drop}
 use lib.Seq.{slice}
-use Rattle.number.specs.Decimal.{joined, IsWholePart, Digits⁺}
-use Rattle.lexer.specs.Bytes.{isSpace, isNameByte, isNameLength, isWordStart, isQuote, inClass, placeIn}
+use Rattle.number.specs.Decimal.{mostDigits, IsNumber}
+use Rattle.lexer.specs.Bytes.{isSpace, isNameByte, isNameLength, isWordStart, isQuote, inClass, placeIn, ascii}
 use Rattle.lexer.specs.Punctuator.{punctuators, refusedOperators}
 use Rattle.lexer.specs.Token.{literalWords}
 use Rattle.lexer.specs.declared.bytes.Class.the-variants.{Inside}
@@ -23,20 +24,14 @@ abbrev pub All : (ℕ → Bool) → List ℕ → Type 0
 All p [] = Unit {0}
 All p (b ∷ bs) = T (p b) × All p bs
 
--- "a whole part (`0`, or digits not starting with 0) and maybe a point and at least one digit": the text, the whole number of its digits,
--- how many of them stand after the point, and how many there are
-pub data IsDecimal : List ℕ → ℕ → ℕ → ℕ → Type 0 where
-  whole : {w : List ℕ} → IsWholePart w → IsDecimal w (joined 0 w) 0 (length w)
-  pointed : (w f : List ℕ) → IsWholePart w → Digits⁺ f → IsDecimal (w ++ 46 ∷ f) (joined 0 (w ++ f)) (length f) (length w + length f)
-
 -- the bytes that spell a token
 pub data Spells : List ℕ → Token → Type 0 where
   -- "15 digits in all at most"
-  number : {s : List ℕ} {n k d : ℕ} → IsDecimal s n k d → d ≤ 15 → Spells s (Number n k)
+  number : {s : List ℕ} {n k d : ℕ} → IsNumber s n k d → d ≤ mostDigits → Spells s (Number n k)
   -- "A string is closed by the quote that opened it"; what stands inside is `inClass (Inside q)`
   string : (q : ℕ) (bs : List ℕ) → T (isQuote q) → All (inClass (Inside q)) bs → Spells (q ∷ bs ++ q ∷ []) String
   -- "A variable is `${`, a name, `}`"
-  variable : (bs : List ℕ) → All isNameByte bs → T (isNameLength (length bs)) → Spells (36 ∷ 123 ∷ bs ++ 125 ∷ []) Variable
+  variable : (bs : List ℕ) → All isNameByte bs → T (isNameLength (length bs)) → Spells (ascii "${" ++ bs ++ ascii "}") Variable
   -- "A word is a letter or underscore, then letters, digits or underscores"
   word : (b : ℕ) (bs : List ℕ) → T (isWordStart b) → All isNameByte bs → Spells (b ∷ bs) (Word (placeIn literalWords (b ∷ bs)))
   punctuator : {s : List ℕ} → List·Memᴰ s punctuators → Spells s (Punctuator (placeIn punctuators s))
@@ -44,7 +39,7 @@ pub data Spells : List ℕ → Token → Type 0 where
 -- the bytes that spell a token which is refused
 pub data Refuses : List ℕ → Type 0 where
   -- "a longer one being a token refused with 2"
-  long-number : {s : List ℕ} {n k d : ℕ} → IsDecimal s n k d → 15 < d → Refuses s
+  long-number : {s : List ℕ} {n k d : ℕ} → IsNumber s n k d → mostDigits < d → Refuses s
   refused-operator : {s : List ℕ} → List·Memᴰ s refusedOperators → Refuses s
 
 -- "Longest match": a text begins with no token, listed or refused, of over n bytes
@@ -62,7 +57,8 @@ pub record SpacesUpTo (text : List ℕ) (from at : ℕ) : Type 0 where
 -- What stands at a place or after it, within the text: a token, and no longer one stands there; or a refused one that is the longest, or a
 -- byte that begins no token at all; or spaces up to the end.
 abbrev pub Munch : List ℕ → ℕ → Lexeme → Type 0
-Munch text from (Found t at end) = SpacesUpTo text from at × (end ≤ length text) × Spells (slice at end text) t × NoLonger (end - at) (drop at text)
+Munch text from (Found t at end) =
+    SpacesUpTo text from at × (end ≤ length text) × Spells (slice at end text) t × NoLonger (end - at) (drop at text)
 Munch text from (Bad at end) =
     SpacesUpTo text from at × (end ≤ length text)
     × ((Refuses (slice at end text) × NoLonger (end - at) (drop at text)) ⊎ (NoLonger 0 (drop at text) × (end ≡ at + 1)))

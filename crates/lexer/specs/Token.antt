@@ -40,7 +40,9 @@ unfoldable pub variableAt : ℕ → List ℕ → Lexeme
 unfolding run
 variableAt at bs =
     let n = run isNameByte (drop 1 bs) in
-    cond ((begins (ascii "{") bs && isNameLength n) && begins (ascii "}") (drop (1 + n) bs)) (Found Variable at (at + (n + 3))) (Bad at (at + 1))
+    cond ((begins (ascii "{") bs && isNameLength n) && begins (ascii "}") (drop (1 + n) bs))
+    (Found Variable at (at + (n + 3)))
+    (Bad at (at + 1))
 
 -- "`true`, `false`, `null`, `undefined`, `NaN`, `Infinity`", "the literal words": the number of one is its place in this list, and that of
 -- any other word is 6

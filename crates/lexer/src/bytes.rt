@@ -4,7 +4,8 @@ ghost use mathlib.Core.List.{_∷_, []};
 ghost use Prim.Native.Nat.{_+_, _≤_, min};
 ghost use lib.ListN.{length, drop, getD};
 ghost use lib.Seq.{slice};
-ghost use Rattle.lexer.specs.Bytes.{isSpace, isLetter, isHexDigit, isNameByte, isNameLength, isWordStart, isQuote, inClass, run, begins, same};
+ghost use Rattle.lexer.specs.Bytes.{isSpace, isLetter, isHexDigit, isNameByte, isNameLength, isWordStart, isQuote, inClass, run};
+ghost use Rattle.lexer.specs.Bytes.{begins, same};
 pub use number::decimal::is_digit;
 
 // What a run is made of.

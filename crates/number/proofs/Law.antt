@@ -6,3 +6,4 @@ pub mod Rounding
 pub mod Integers
 pub mod Colour
 pub mod Reading
+pub mod Remainder

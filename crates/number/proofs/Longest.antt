@@ -1,17 +1,16 @@
 -- `readAt` takes the longest number at a place: no number there is longer, and what it takes is one.
 use mathlib.Core.Path.{_≡_, refl, sym, _∙_, ap, ap₂, subst}
 use mathlib.Core.Bool.{Bool, true, false}
-use mathlib.Core.List.{List, [], _∷_, _++_, append-nil, append-assoc}
+use mathlib.Core.List.{List, [], _∷_, _++_, append-nil, append-assoc, head-eq-of-cons-eq}
 use Prim.Native.Nat.{ℕ, zero, suc, _+_, _≤_, _<_}
 use native.Mathlib.Nat.{add-zero}
 use native.Mathlib.Omega.{arith}
 use borrow.Author.Tests.{ne-eqb, eqb-true, eqb-false}
 use lib.Dec.{T, eqb, lit≤}
-use lib.ListN.{length, take, drop, length-append}
+use lib.ListN.{length, take, drop, length-append, take-append-drop}
 use lib.Seq.{take-add, drop-append-seam}
 use lib.Ieee.Bits.{is-true}
-use Rattle.number.specs.declared.decimal.Decimal.{Decimal}
-use Rattle.number.specs.Decimal.{isDigit, digits, wholePart, fraction, withPoint, readAt, Digits⁺, IsWholePart, nought, counted, IsNumber, whole, pointed, taken, Longest}
+use Rattle.number.specs.Decimal.{isDigit, digits, wholePart, fraction, joined, withPoint, readAt, Digits⁺, IsWholePart, nought, counted, IsNumber, whole, pointed, LongestNumber, Longest}
 use Rattle.number.proofs.Law.Reading.{digits-more, digits-none, read-cases}
 
 -- ---- a number that a text begins with
@@ -41,10 +40,10 @@ with-point zero h = omega arith
 with-point (suc k) h = refl
 
 -- how many bytes of a text `readAt` takes, where it begins with a digit
-abbrev pub size : List ℕ → ℕ
+abbrev size : List ℕ → ℕ
 size bs = length (wholePart bs) + withPoint (length (fraction (drop (length (wholePart bs)) bs)))
 
-number-fits : {p : List ℕ} → IsNumber p → (q : List ℕ) → (0 < length (wholePart (p ++ q))) × (length p ≤ size (p ++ q))
+number-fits : {p : List ℕ} {n k d : ℕ} → IsNumber p n k d → (q : List ℕ) → (0 < length (wholePart (p ++ q))) × (length p ≤ size (p ++ q))
 unfolding fraction
 number-fits (whole {w} h) q =
     let o = whole-over h q in
@@ -111,7 +110,7 @@ point-is (b ∷ bs) h = go (eqb b 46) refl
     go false e = absurd (omega (arith, rw (fraction, e) at h))
 
 -- What is taken of a text is a whole part, or one with a point and digits after it: whatever holds of both holds of the text taken, its whole part and its digits after the point.
-pub number-parts : (P : List ℕ → List ℕ → List ℕ → Type 0) (bs : List ℕ) → ((w : List ℕ) → IsWholePart w → P w w []) →
+number-parts : (P : List ℕ → List ℕ → List ℕ → Type 0) (bs : List ℕ) → ((w : List ℕ) → IsWholePart w → P w w []) →
     ((w f : List ℕ) → IsWholePart w → Digits⁺ f → P (w ++ 46 ∷ f) w f) → 0 < length (wholePart bs) →
     P (take (size bs) bs) (wholePart bs) (fraction (drop (length (wholePart bs)) bs))
 number-parts P bs p q h = go (fraction rest) refl
@@ -127,35 +126,49 @@ number-parts P bs p q h = go (fraction rest) refl
         rw (with-point (length (fraction rest)) (omega arith), take-add (length (wholePart bs)) _ bs, take-whole bs, i .0)
         (q (wholePart bs) (fraction rest) (whole-is bs h) (i .1))
 
-number-is : (bs : List ℕ) → 0 < length (wholePart bs) → IsNumber (take (size bs) bs)
-number-is bs = number-parts (λ s w f. IsNumber s) bs (λ w h. whole h) (λ w f h d. pointed w f h d)
+module _ (bs : List ℕ) (some : 0 < length (wholePart bs)) where
+  abbrev after : List ℕ
+  after = fraction (drop (length (wholePart bs)) bs)
+
+  taken-is : IsNumber (take (size bs) bs) (joined 0 (wholePart bs ++ after)) (length after) (length (wholePart bs) + length after)
+  taken-is =
+      number-parts (λ s w f. IsNumber s (joined 0 (w ++ f)) (length f) (length w + length f)) bs
+      (λ w h. rw (append-nil w, add-zero (length w)) (whole h)) (λ w f h d. pointed w f h d) some
+
+  taken-size : length (take (size bs) bs) ≡ size bs
+  taken-size =
+      number-parts (λ s w f. length s ≡ length w + withPoint (length f)) bs (λ w h. omega arith)
+      (λ w f h d. omega (arith, length-append w (46 ∷ f), with-point (length f) (digits-some f d))) some
+
+  taken-longest : LongestNumber bs (take (size bs) bs) (joined 0 (wholePart bs ++ after)) (length after) (length (wholePart bs) + length after)
+  taken-longest =
+      record {
+        is-number = taken-is;
+        rest = drop (size bs) bs;
+        begins = take-append-drop (size bs) bs;
+        none-longer = λ p q m j c e h. rw (taken-size, ← e) (number-fits h q .1);
+      }
 
 -- ---- the longest number
 
-takes : (text : List ℕ) (at : ℕ) (d : Decimal) → taken at d ≡ size (drop at text) → 0 < length (wholePart (drop at text)) → Longest text at d
-takes text at d e h =
-    record {
-      none-longer = λ p q k n. rw (e, ← k) (number-fits n q .1);
-      is-number = λ _. rw e (number-is (drop at text) h);
-    }
-
 pub longest : (text : List ℕ) (at : ℕ) → Longest text at (readAt text at)
 longest text at =
+    let bs = drop at text in
     read-cases (Longest text at) text at
-    (λ z. record {
-      none-longer = λ p q k n. absurd (omega (arith, z, rw k at (number-fits n q .0)));
-      is-number = λ h. absurd (h refl);
-    })
-    (λ some few. takes text at _ (omega arith) some)
-    (λ some many. takes text at _ (omega arith) some)
+    (λ none p q n k d e h. omega (arith, none, rw e at (number-fits h q .0)))
+    (λ some few. (take (size bs) bs, _, taken-longest bs some, omega (arith, taken-size bs some), few))
+    (λ some many. (take (size bs) bs, _, _, _, taken-longest bs some, omega (arith, taken-size bs some), many))
 
 -- ---- a number begins with a digit
 
-pub whole-digit : (b : ℕ) (bs : List ℕ) → 0 < length (wholePart (b ∷ bs)) → isDigit b ≡ true
-unfolding wholePart
-whole-digit b bs h = go (eqb b 48) (isDigit b) refl refl
-  where
-    go : (t u : Bool) → eqb b 48 ≡ t → isDigit b ≡ u → isDigit b ≡ true
-    go true u e k = ap isDigit (eqb-true b 48 e)
-    go false true e k = k
-    go false false e k = absurd (omega (arith, ap length (digits-none b bs k), rw (wholePart, e) at h))
+digits-first : (b : ℕ) (bs : List ℕ) → Digits⁺ (b ∷ bs) → isDigit b ≡ true
+digits-first b [] h = is-true _ h
+digits-first b (c ∷ bs) h = is-true _ (h .0)
+
+whole-first : {w : List ℕ} → IsWholePart w → (q : List ℕ) (c : ℕ) (cs : List ℕ) → w ++ q ≡ c ∷ cs → isDigit c ≡ true
+whole-first nought q c cs e = ap isDigit (sym (head-eq-of-cons-eq e))
+whole-first (counted {b} {bs} n h) q c cs e = ap isDigit (sym (head-eq-of-cons-eq e)) ∙ digits-first b bs h
+
+pub number-first : {p : List ℕ} {n k d : ℕ} → IsNumber p n k d → (q : List ℕ) (b : ℕ) (bs : List ℕ) → p ++ q ≡ b ∷ bs → isDigit b ≡ true
+number-first (whole h) q b bs e = whole-first h q b bs e
+number-first (pointed w f h d) q b bs e = whole-first h (46 ∷ f ++ q) b bs (sym (append-assoc w (46 ∷ f) q) ∙ e)

@@ -1,27 +1,37 @@
--- What a reader expects of floor, ceil, round and a colour's byte, proved of their definitions.
+-- What a reader expects of NaN, floor, ceil, round, the remainder and a colour's byte, proved of their definitions.
 use mathlib.Core.Path.{_≡_, refl, sym, _∙_, ap, subst}
 use mathlib.Core.Bool.{Bool, true, false, not, cond}
 use Prim.Native.Nat.{ℕ, zero, suc, _+_, _*_, _/_, _%_, _^_, _≤_, _<_, min}
-use native.Mathlib.Nat.{mul-one, mul-assoc, mul-left-comm, mul-le-mul-right, div-add-mod', div-le-self, mod-lt, zero-mul, suc-mul, lt-div-mul-add}
+use native.Mathlib.Nat.{mul-one, mul-assoc, mul-left-comm, mul-le-mul-right, mul-pos, mod-eq-sub-div-mul, div-add-mod', div-le-self, mod-lt, zero-mul, suc-mul, lt-div-mul-add}
 use native.Mathlib.Numerals.{add-one}
 use native.Mathlib.Omega.{arith}
 use borrow.Author.Tests.{eqb-true, eqb-false}
 use lib.Dec.{T, eqb, eqb·suc-zero}
-use lib.IntN.{ℤ, pos, negsuc, negℤ, natAbs, _+ℤ_, _*ℤ_}
+use lib.IntN.{ℤ, pos, negsuc, negℤ, natAbs, _+ℤ_, _-ℤ_, _*ℤ_}
 use lib.Signed.{shrZ}
-use lib.Ieee.{Float, nan, inf, fin, binary64, up, down, round, lt, isNan, neg, fits}
+use lib.Ieee.{Float, nan, inf, fin, binary64, up, down, unlike, round, rem, lt, isNan, neg, fits, nanBits, ofBits, toBits}
 use lib.Ieee.Back.{round-whole}
-use lib.Ieee.Bits.{is-true}
+use lib.Ieee.Bits.{is-true, nanBits-is}
 use lib.Ieee.Exact.{HasValue}
-use lib.Ieee.Fits.{down-pos, neg-fits}
+use lib.Ieee.Fits.{up-pos, down-pos, neg-fits}
 use lib.Ieee.Scale.{finite}
 use Rattle.number.specs.Arithmetic.{nought, unit}
-use Rattle.number.specs.Rounding.{signed, negative, floorOf, ceilOf, roundOf, IsWhole, IsFloor, IsCeil, IsRound, Greatest}
+use Rattle.number.specs.Rounding.{signed, negative, floorOf, ceilOf, roundOf, IsWhole, IsFloor, IsCeil, IsRound, LeftOver, IsRemainder, Greatest}
 use Rattle.number.specs.Colour.{componentOf, byteOf, IsByte}
-use Rattle.number.proofs.Law.Compare.{no', below-zero, fits-says}
+use Rattle.number.proofs.Law.Compare.{only-nan, no', below-zero, fits-says}
 use Rattle.number.proofs.Law.Size.{floor-size, rises, round-size}
 use Rattle.number.proofs.Law.Rounding.{size-exact}
-use Rattle.number.proofs.Law.Integers.{neg-signed, signed-mul, twice-signed, floor-sign, round-sign, floor-greatest, neg-greatest, neg-mul}
+use Rattle.number.proofs.Law.Remainder.{remainder-exact}
+use Rattle.number.proofs.Law.Integers.{neg-signed, signed-mul, signed-times, signed-minus, twice-signed, floor-sign, round-sign, floor-greatest, neg-greatest, neg-mul}
+
+-- ---- "Every NaN is one NaN, stored as 0x7FF8000000000000."
+
+pub one-nan : (bits : ℕ) → nanBits binary64 bits ≡ true → ofBits binary64 bits ≡ nan
+one-nan bits e = only-nan (ofBits binary64 bits) (sym (nanBits-is binary64 bits) ∙ e)
+
+pub nan-stored : toBits binary64 nan ≡ 0x7FF8000000000000
+unfolding toBits
+nan-stored = refl
 
 -- ---- the whole number found is held exactly
 
@@ -124,6 +134,53 @@ ceil-is = of-finite (λ x. IsCeil x (ceilOf x)) ceil-finite
 
 pub round-is : (x : Float) → fits binary64 x ≡ true → T (finite x) → IsRound x (roundOf x)
 round-is = of-finite (λ x. IsRound x (roundOf x)) round-finite
+
+-- ---- the remainder
+
+module _ (s t : Bool) (m n : ℕ) (e d : ℤ) (some : 0 < n) where
+  abbrev a : ℕ
+  a = m * up e * down d
+
+  abbrev b : ℕ
+  b = n * up d * down e
+
+  -- x - n y, over the common denominator
+  difference : signed s (m * up e) *ℤ pos (down d) -ℤ signed (unlike s t) (a / b) *ℤ signed t (n * up d) *ℤ pos (down e) ≡ signed s (a % b)
+  difference =
+      let times : a / b * (n * up d) * down e ≡ a / b * b = mul-assoc (a / b) (n * up d) (down e) in
+      ap (λ (z : ℤ). z -ℤ signed (unlike s t) (a / b) *ℤ signed t (n * up d) *ℤ pos (down e)) (signed-mul s (m * up e) (down d))
+      ∙ ap (λ (z : ℤ). signed s a -ℤ z *ℤ pos (down e)) (signed-times s t (a / b) (n * up d))
+      ∙ ap (λ (z : ℤ). signed s a -ℤ z) (signed-mul s (a / b * (n * up d)) (down e) ∙ ap (signed s) times)
+      ∙ signed-minus s a (a / b * b) (omega (arith, div-add-mod' a b))
+      ∙ ap (signed s) (sym (mod-eq-sub-div-mul a b))
+
+  left-over : (r : Float) → HasValue r s (a % b) (down e * down d) → LeftOver (fin s m e) (fin t n d) r
+  left-over nan v = absurd v
+  left-over (inf u) v = absurd v
+  left-over (fin u k c) v =
+      record {
+        q = a / b;
+        not-over = rw (mul-assoc (a / b) (n * up d) (down e)) (omega (arith, div-add-mod' a b));
+        next-over = rw (mul-assoc (suc (a / b)) (n * up d) (down e), suc-mul (a / b) b) (lt-div-mul-add (mul-pos (mul-pos some (up-pos d)) (down-pos e)));
+        is-finite = tt;
+        exact =
+            signed-mul u (k * up c) (down e * down d)
+            ∙ (λ i. signed (v .0 i) (v .1 i))
+            ∙ sym (signed-mul s (a % b) (down c))
+            ∙ ap (λ (z : ℤ). z *ℤ pos (down c)) (sym difference);
+        sign = v .0;
+      }
+
+pub remainder-is : (x y : Float) → fits binary64 x ≡ true → fits binary64 y ≡ true → IsRemainder x y (rem binary64 x y)
+unfolding rem
+remainder-is nan y f g = refl
+remainder-is (inf s) y f g = refl
+remainder-is (fin s m e) nan f g = refl
+remainder-is (fin s m e) (inf t) f g = refl
+remainder-is (fin s m e) (fin t zero d) f g = refl
+remainder-is (fin s m e) (fin t (suc n) d) f g =
+    rw (eqb·suc-zero n)
+    (left-over s t m (suc n) e d (omega arith) _ (remainder-exact s t m (suc n) e d (omega arith) (subst T (sym f) tt) (subst T (sym g) tt)))
 
 -- ---- a colour's byte
 

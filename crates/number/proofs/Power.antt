@@ -17,7 +17,7 @@ use lib.Ieee.Fits.{down-pos}
 use lib.Ieee.Positive.{first-pos, positive-of-value, mul-at}
 use lib.Ieee.Scale.{round-same}
 use Rattle.number.specs.declared.decimal.Decimal.the-variants.{Number}
-use Rattle.number.specs.Decimal.{joined, readAt, tenTo, valueOf}
+use Rattle.number.specs.Decimal.{joined, mostDigits, readAt, tenTo, valueOf}
 use Rattle.number.proofs.Law.Sign.{sign-round}
 use Rattle.number.proofs.Law.Reading.{wholeAt, fractionAt, joined-append, whole-lt, fraction-lt, read-cases}
 
@@ -73,9 +73,9 @@ value-once s n k h p =
     ap (λ (q : Float). cond s (neg q) q) quotient ∙ sign-round s n (10 ^ k)
 
 -- what is read has at most 15 digits, at least one of them before the point
-pub read-small : (text : List ℕ) (at end n k : ℕ) → readAt text at ≡ Number end n k → (n < 10 ^ 15) × (k ≤ 14)
+pub read-small : (text : List ℕ) (at end n k : ℕ) → readAt text at ≡ Number end n k → (n < 10 ^ mostDigits) × (k < mostDigits)
 read-small text at end n k =
-    read-cases (λ d. d ≡ Number end n k → (n < 10 ^ 15) × (k ≤ 14)) text at
+    read-cases (λ d. d ≡ Number end n k → (n < 10 ^ mostDigits) × (k < mostDigits)) text at
     (λ z e. let no : _≡_ {A = ℕ} 0 1 = cc in omega arith)
     (λ some few e.
     let w = wholeAt text at in
@@ -83,11 +83,11 @@ read-small text at end n k =
     let places : length f ≡ k = cc in
     let whole : joined 0 (w ++ f) ≡ n = cc in
     let below : joined 0 (w ++ f) < 10 ^ (length w + length f) = rw (joined-append 0 w f) (fraction-lt _ (joined 0 w) (length w) (whole-lt (drop at text))) in
-    (subst (λ (z : ℕ). z < 10 ^ 15) whole (lt-of-lt-of-le below (pow-le-pow-right (lit< tt) few)), omega arith))
+    (subst (λ (z : ℕ). z < 10 ^ mostDigits) whole (lt-of-lt-of-le below (pow-le-pow-right (lit< tt) few)), omega arith))
     (λ some many e. let no : _≡_ {A = ℕ} 0 1 = cc in omega arith)
 
 -- the value of a number that is read
 pub literal-value : (text : List ℕ) (at end n k : ℕ) (s : Bool) → readAt text at ≡ Number end n k → valueOf s n k ≡ round binary64 s n (10 ^ k)
 literal-value text at end n k s e =
-    let small : (n < 10 ^ 15) × (k ≤ 14) = read-small text at end n k e in
+    let small : (n < 10 ^ mostDigits) × (k < mostDigits) = read-small text at end n k e in
     value-once s n k (omega arith) (omega arith)

@@ -1,4 +1,5 @@
--- Functions on numbers: page 01, "Kinds and meaning". Numbers are binary64, each operation rounds once, and there is one NaN.
+-- Functions on numbers: page 01, "Kinds and meaning". Numbers are binary64, each operation rounds once, and there is one NaN, `nan`: "Every
+-- NaN is one NaN, stored as 0x7FF8000000000000" is `one-nan` and `nan-stored` in proofs/Plain.antt.
 use mathlib.Core.Bool.{Bool, false, not, _&&_, _||_, cond}
 use Prim.Native.Nat.{zero, suc}
 use lib.Dec.{eqb}

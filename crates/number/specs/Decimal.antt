@@ -2,9 +2,9 @@
 use mathlib.Core.Path.{_≡_}
 use mathlib.Core.Bool.{Bool, true, false, _&&_, cond}
 use mathlib.Core.List.{List, [], _∷_, _++_}
-use Prim.Native.Nat.{ℕ, zero, suc, _+_, _-_, _*_, _≤_}
+use Prim.Native.Nat.{ℕ, zero, suc, _+_, _-_, _*_, _≤_, _<_}
 use lib.Dec.{T, eqb, leb}
-use lib.ListN.{length, take, drop}
+use lib.ListN.{length, drop}
 use lib.IntN.{pos}
 use lib.Ieee.{Float, fin, binary64, mul, div, neg, ofInt}
 use Rattle.number.specs.declared.decimal.Decimal.{Decimal}
@@ -42,7 +42,11 @@ abbrev pub withPoint : ℕ → ℕ
 withPoint zero = zero
 withPoint (suc k) = suc (suc k)
 
--- The longest number at a place; "15 digits in all at most, a longer one being a token refused". A place past the end has nothing.
+-- "15 digits in all at most"
+abbrev pub mostDigits : ℕ
+mostDigits = 15
+
+-- The longest number at a place; "a longer one being a token refused". A place past the end has nothing.
 unfoldable pub readAt : List ℕ → ℕ → Decimal
 unfolding wholePart fraction joined
 readAt text at =
@@ -50,9 +54,9 @@ readAt text at =
     let w = wholePart rest in
     let f = fraction (drop (length w) rest) in
     let end = at + length w + withPoint (length f) in
-    cond (eqb (length w) 0) Nothing (cond (leb (length w + length f) 15) (Number end (joined 0 (w ++ f)) (length f)) (TooLong end))
+    cond (eqb (length w) 0) Nothing (cond (leb (length w + length f) mostDigits) (Number end (joined 0 (w ++ f)) (length f)) (TooLong end))
 
--- ---- the grammar of a number, and what "the longest" says (`longest` in proofs/Longest.antt)
+-- ---- the grammar of a number, and what is the longest (`longest` in proofs/Longest.antt)
 
 -- digits, at least one
 abbrev pub Digits⁺ : List ℕ → Type 0
@@ -60,24 +64,29 @@ Digits⁺ [] = ⊥
 Digits⁺ (b ∷ []) = T (isDigit b)
 Digits⁺ (b ∷ c ∷ bs) = T (isDigit b) × Digits⁺ (c ∷ bs)
 
+-- "(`0`, or digits not starting with 0)"
 pub data IsWholePart : List ℕ → Type 0 where
   nought : IsWholePart (48 ∷ [])
   counted : {b : ℕ} {bs : List ℕ} → (b ≡ 48 → ⊥) → Digits⁺ (b ∷ bs) → IsWholePart (b ∷ bs)
 
-pub data IsNumber : List ℕ → Type 0 where
-  whole : {w : List ℕ} → IsWholePart w → IsNumber w
-  pointed : (w f : List ℕ) → IsWholePart w → Digits⁺ f → IsNumber (w ++ 46 ∷ f)
+-- "A number has a whole part .. and maybe a point and at least one digit": the text, the whole number of its digits, how many of them
+-- stand after the point, and how many there are
+pub data IsNumber : List ℕ → ℕ → ℕ → ℕ → Type 0 where
+  whole : {w : List ℕ} → IsWholePart w → IsNumber w (joined 0 w) 0 (length w)
+  pointed : (w f : List ℕ) → IsWholePart w → Digits⁺ f → IsNumber (w ++ 46 ∷ f) (joined 0 (w ++ f)) (length f) (length w + length f)
 
--- how many bytes the number found takes, none where there is nothing
-abbrev pub taken : ℕ → Decimal → ℕ
-taken at Nothing = 0
-taken at (Number end n k) = end - at
-taken at (TooLong end) = end - at
+-- a text begins with the number s, and with none that is longer
+pub record LongestNumber (text s : List ℕ) (n k d : ℕ) : Type 0 where
+  pub is-number : IsNumber s n k d
+  pub rest : List ℕ
+  pub begins : s ++ rest ≡ text
+  pub none-longer : (p q : List ℕ) (m j c : ℕ) → p ++ q ≡ text → IsNumber p m j c → length p ≤ length s
 
--- No number at the place is longer; and what is found is one, unless nothing is.
-pub record Longest (text : List ℕ) (at : ℕ) (found : Decimal) : Type 0 where
-  pub none-longer : (p q : List ℕ) → p ++ q ≡ drop at text → IsNumber p → length p ≤ taken at found
-  pub is-number : (found ≡ Nothing → ⊥) → IsNumber (take (taken at found) (drop at text))
+-- what is found at a place: no number stands there, or the longest that does, of at most 15 digits or of more
+abbrev pub Longest : List ℕ → ℕ → Decimal → Type 0
+Longest text at Nothing = (p q : List ℕ) (n k d : ℕ) → p ++ q ≡ drop at text → IsNumber p n k d → ⊥
+Longest text at (Number end n k) = (s : List ℕ) × (d : ℕ) × LongestNumber (drop at text) s n k d × (end ≡ at + length s) × (d ≤ mostDigits)
+Longest text at (TooLong end) = (s : List ℕ) × (n k d : ℕ) × LongestNumber (drop at text) s n k d × (end ≡ at + length s) × (mostDigits < d)
 
 -- 5 * 2
 abbrev pub ten : Float

@@ -10,7 +10,7 @@ use lib.ListN.{length, length-append}
 use Rattle.colour.specs.declared.colour.Colouring.{Colouring}
 use Rattle.colour.specs.declared.colour.Colouring.the-variants.{None, Of}
 use Rattle.output.proofs.Law.Lines.{last-digit, digit-more}
-use Rattle.output.specs.Line.{decimalDigit, digitsOf, decimal, colourText, colouringText, truthText, paintedLine, refusedFeature, refusedHead}
+use Rattle.output.specs.Line.{decimalDigit, digitsOf, decimal, colourText, colouringText, truthText, paintedLine, refusedFeature, refusedHead, longestLine}
 
 -- ---- numbers
 
@@ -65,15 +65,15 @@ pub painted-fits : (number : ℕ) (show : Bool) (c : Colouring) → number ≤ 9
 painted-fits number show c h =
     omega (arith, painted-length number show c, digits-few 5 20 number (omega arith), truth-fits show, colouring-fits c)
 
--- ---- every line fits on a page of 72 bytes
+-- ---- the longest line
 
-pub painted-page : (number : ℕ) (show : Bool) (c : Colouring) → length (paintedLine number show c) ≤ 72
+pub painted-page : (number : ℕ) (show : Bool) (c : Colouring) → length (paintedLine number show c) ≤ longestLine
 painted-page number show c = omega (arith, painted-length number show c, digits-fit 20 number, truth-fits show, colouring-fits c)
 
-pub refused-feature-page : (feature number place : ℕ) → length (refusedFeature feature number place) ≤ 72
+pub refused-feature-page : (feature number place : ℕ) → length (refusedFeature feature number place) ≤ longestLine
 refused-feature-page feature number place =
     omega (arith, refused-feature-length feature number place, digits-fit 20 feature, digits-fit 20 number, digits-fit 20 place)
 
-pub refused-head-page : (number line place : ℕ) → length (refusedHead number line place) ≤ 72
+pub refused-head-page : (number line place : ℕ) → length (refusedHead number line place) ≤ longestLine
 refused-head-page number line place =
     omega (arith, refused-head-length number line place, digits-fit 20 number, digits-fit 20 line, digits-fit 20 place)

@@ -70,8 +70,14 @@ paintedLine number show colouring = decimal number ++ (fieldOf (truthText show) 
 
 -- `3→refused→9→5`
 unfoldable pub refusedFeature : ℕ → ℕ → ℕ → List ℕ
-refusedFeature feature number place = decimal feature ++ (fieldOf (ascii "refused") ++ (fieldOf (decimal number) ++ (fieldOf (decimal place) ++ ending)))
+refusedFeature feature number place =
+    decimal feature ++ (fieldOf (ascii "refused") ++ (fieldOf (decimal number) ++ (fieldOf (decimal place) ++ ending)))
 
 -- "A refused head prints the heading line, then `refused`, number, line, place, parted by tabs."
 unfoldable pub refusedHead : ℕ → ℕ → ℕ → List ℕ
-refusedHead number line place = ascii "refused" ++ (fieldOf (decimal number) ++ (fieldOf (decimal line) ++ (fieldOf (decimal place) ++ ending)))
+refusedHead number line place =
+    ascii "refused" ++ (fieldOf (decimal number) ++ (fieldOf (decimal line) ++ (fieldOf (decimal place) ++ ending)))
+
+-- no line has more bytes: `Sizes` in proofs/
+abbrev pub longestLine : ℕ
+longestLine = 72

@@ -1,7 +1,8 @@
 // The lines of the output, one for each feature or for a head that is refused.
 ghost use mathlib.Core.Path.{_≡_};
 ghost use Rattle.output.specs.Page.{written};
-ghost use Rattle.output.specs.Line.{front, decimalDigit, digitsOf, decimal, hexDigit, hexByte, colourText, colouringText, truthText, fieldOf, paintedLine, refusedFeature, refusedHead};
+ghost use Rattle.output.specs.Line.{front, decimalDigit, digitsOf, decimal, hexDigit, hexByte, colourText, colouringText, truthText};
+ghost use Rattle.output.specs.Line.{fieldOf, paintedLine, refusedFeature, refusedHead};
 use crate::page;
 use colour::colour::Colour;
 use colour::colour::Colouring;

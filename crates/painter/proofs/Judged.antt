@@ -30,7 +30,7 @@ use Rattle.checker.specs.declared.check.Verdict.{Verdict}
 use Rattle.checker.specs.declared.check.Verdict.the-variants.{Refused, Accepted}
 use Rattle.checker.specs.declared.check.Wanted.{Wanted}
 use Rattle.evaluator.specs.Demand.{isRefused}
-use Rattle.style.specs.Expression.{byKinds, expressionOf}
+use Rattle.style.specs.Expression.{verdictOn, byKinds, expressionOf}
 use Rattle.style.proofs.Law.Answers.{isFine, refusalIn}
 
 -- ---- the checker refuses with 7 alone
@@ -100,11 +100,7 @@ seven-result want end (Accepted s) h = by-test Seven (withinOf s (takenBy want))
 -- ---- an expression that is refused
 
 module _ (look : List ℕ → Kinds) (want : Wanted) (text : List ℕ) where
-  -- the checker's verdict on its tree
-  abbrev pub verdictOf : Tree → Verdict
-  verdictOf t = resultOf want (length text) (kindsOf (λ p n. look (nameAt text p)) t)
-
-  seven-verdict : (t : Tree) → Seven (verdictOf t)
+  seven-verdict : (t : Tree) → Seven (verdictOn look want text t)
   seven-verdict t =
       seven-result want (length text) (kindsOf (λ p n. look (nameAt text p)) t) (seven-kinds (λ p n. look (nameAt text p)) t)
 
@@ -112,15 +108,15 @@ module _ (look : List ℕ → Kinds) (want : Wanted) (text : List ℕ) where
     -- either its text is, or the kinds of its tree
     data From : Judged Tree → Type 0 where
       text-refused : From (refused r)
-      kinds-refused : (t : Tree) → verdictOf t ≡ Refused r → From (fine t)
+      kinds-refused : (t : Tree) → verdictOn look want text t ≡ Refused r → From (fine t)
 
     by-verdict : (v : Verdict) (t : Tree) → byKinds (answerOf v) text t ≡ refused r → v ≡ Refused r
     by-verdict (Refused q) t e = ap (λ j. Refused (refusalIn q j)) e
     by-verdict (Accepted k) t e = absurd (false≢true (sym (ap isFine e)))
 
-    from-judged : (j : Judged Tree) → onFine j (λ t. byKinds (answerOf (verdictOf t)) text t) ≡ refused r → From j
+    from-judged : (j : Judged Tree) → onFine j (λ t. byKinds (answerOf (verdictOn look want text t)) text t) ≡ refused r → From j
     from-judged (refused q) e = subst (λ x. From (refused x)) (sym (ap (refusalIn q) e)) text-refused
-    from-judged (fine t) e = kinds-refused t (by-verdict (verdictOf t) t e)
+    from-judged (fine t) e = kinds-refused t (by-verdict (verdictOn look want text t) t e)
 
     refused-from : expressionOf look want text ≡ refused r → From (judgedOf text)
     unfolding expressionOf
@@ -134,17 +130,17 @@ module _ (look : List ℕ → Kinds) (want : Wanted) (text : List ℕ) where
         go (refused q) text-refused = refl
         go (fine x) (kinds-refused t v) = absurd (let n : _≡_ {A = ℕ} 4 7 = subst Seven v (seven-verdict t) in omega arith)
 
-    pub seven-judged : expressionOf look want text ≡ refused (refusalAt 7 p) → (t : Tree) × (judgedOf text ≡ fine t) × (verdictOf t ≡ Refused (refusalAt 7 p))
+    pub seven-judged : expressionOf look want text ≡ refused (refusalAt 7 p) → (t : Tree) × (judgedOf text ≡ fine t) × (verdictOn look want text t ≡ Refused (refusalAt 7 p))
     seven-judged e = go (judgedOf text) refl (refused-from (refusalAt 7 p) e)
       where
-        go : (j : Judged Tree) → judgedOf text ≡ j → From (refusalAt 7 p) j → (t : Tree) × (judgedOf text ≡ fine t) × (verdictOf t ≡ Refused (refusalAt 7 p))
+        go : (j : Judged Tree) → judgedOf text ≡ j → From (refusalAt 7 p) j → (t : Tree) × (judgedOf text ≡ fine t) × (verdictOn look want text t ≡ Refused (refusalAt 7 p))
         go (refused q) h text-refused = absurd (omega (arith, judged-below text (refusalAt 7 p) h))
         go (fine x) h (kinds-refused t v) = (t, h, v)
 
   -- behind 1 to 6 it is refused with 7 exactly if the checker refuses its tree
-  pub seven-exactly : (t : Tree) → judgedOf text ≡ fine t → ((p : ℕ) × (expressionOf look want text ≡ refused (refusalAt 7 p))) ↔ T (isRefused (answerOf (verdictOf t)))
+  pub seven-exactly : (t : Tree) → judgedOf text ≡ fine t → ((p : ℕ) × (expressionOf look want text ≡ refused (refusalAt 7 p))) ↔ T (isRefused (answerOf (verdictOn look want text t)))
   unfolding expressionOf
-  seven-exactly t judged = rw judged ((λ r. to (verdictOf t) (r .1)), from (verdictOf t) (seven-verdict t))
+  seven-exactly t judged = rw judged ((λ r. to (verdictOn look want text t) (r .1)), from (verdictOn look want text t) (seven-verdict t))
     where
       to : (v : Verdict) {p : ℕ} → byKinds (answerOf v) text t ≡ refused (refusalAt 7 p) → T (isRefused (answerOf v))
       to (Refused r) e = tt

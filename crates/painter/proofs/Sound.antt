@@ -11,7 +11,6 @@ use Rattle.lexer.proofs.Law.Runs.{by-test}
 use Rattle.kind.specs.Set.{has}
 use Rattle.kind.specs.declared.kind.Kind.the-variants as kind
 use Rattle.kind.specs.declared.set.Kinds.{Kinds}
-use Rattle.kind.proofs.Law.Choices.{has-set}
 use Rattle.kind.proofs.Law.Sets.{in-single}
 use Rattle.value.specs.Value.{kindOf, truth}
 use Rattle.value.specs.declared.apply.Outcome.{Outcome}
@@ -28,18 +27,22 @@ use Rattle.checker.specs.declared.name.Scope.the-variants as scope
 use Rattle.checker.specs.declared.check.Wanted.{Wanted}
 use Rattle.checker.specs.declared.check.Wanted.the-variants as wanted
 use Rattle.evaluator.specs.Literal.{literalAt, movedValue}
+use Rattle.evaluator.specs.Eval.{isFault}
+use Rattle.evaluator.specs.Entries.{entriesOf, NoneFaults}
 use Rattle.evaluator.specs.Demand.{Conforms, fails}
 use Rattle.evaluator.proofs.Literals.{literal-kind}
 use Rattle.evaluator.proofs.Law.Variables.{every-variable}
 use Rattle.evaluator.proofs.Sound.{accepted-result}
+use Rattle.evaluator.proofs.Entries.{none-joined, none-faults}
 use Rattle.style.specs.Style.{Declared, Expression, Define, Condition, Style, propertyIn, definedIn, kindsIn}
 use Rattle.style.specs.Holds.{Each}
 use Rattle.style.specs.Accepted.{Stands, AllStand}
 use Rattle.feature.specs.Feature.{AllOf}
 use Rattle.painter.specs.Given.{Asked, asked, untilTrue}
-use Rattle.painter.specs.Meaning.{propertyValue, propertyOutcome, expressionAt, definedOutcome, definesText, stringsOf, outcomeOf, valueOf}
+use Rattle.painter.specs.Meaning.{propertyValue, propertyOutcome, contextAt, expressionAt, byDefine, definedOutcome, stringsOf, nameOutcome, ownBase, outcomeOf, valueOf}
 use Rattle.painter.specs.Paint.{declaredKinds, schemaOf}
-use Rattle.painter.specs.Demand.{NoneFails, workedOutOf, named}
+use Rattle.painter.specs.Entries.{workedOutOf, namedEntries, entriesIn, entriesInAll, entriesFor}
+use Rattle.painter.specs.Demand.{NoneFails}
 
 -- ---- names
 
@@ -54,15 +57,6 @@ values-conform (d ∷ ds) (v ∷ vs) a x = go (same x (d .name)) (values-conform
         T (has (propertyKinds (cond b (d .property) (propertyIn ds x))) (kindOf (cond b v (propertyValue ds vs x))))
     go true h = a .0
     go false h = h
-
--- what conforms to any kinds is a value
-pub any-fine : (k : Kinds) (o : Outcome) → Conforms k o → fails wanted.Any o ≡ false
-any-fine k Fault h = absurd h
-any-fine k (Worked v) h = rw (has-set (λ k. true) (kindOf v))
-
-joined : {E : Type 0} (outcome : E → Outcome) (xs ys : List (Asked E)) → NoneFails outcome xs → NoneFails outcome ys → NoneFails outcome (xs ++ ys)
-joined outcome [] ys f g = g
-joined outcome (x ∷ xs) ys f g = (f .0, joined outcome xs ys (f .1) g)
 
 -- ---- expressions that stand in a style
 
@@ -82,7 +76,7 @@ module _ (s : Style) where
       ((x : List ℕ) → Conforms (kindsIn c s x) (names x)) →
       (v : Value) × (expressionAt strings base names e ≡ Worked v) × T (has (e .kinds) (kindOf v)) × T (has (takenBy want) (kindOf v))
   stands-sound c want e st strings base names h =
-      accepted-result (record { text = strings; literals = λ p k. movedValue base (literalAt (e .text) p k); variables = λ p n. names (nameAt (e .text) p) })
+      accepted-result (contextAt strings base names e)
       (λ p n. kindsIn c s (nameAt (e .text) p)) (λ p k. moved-kind base (literalAt (e .text) p k) ∙ literal-kind (e .text) p k) (e .tree)
       (every-variable (λ p n. h (nameAt (e .text) p)) (e .tree)) want (length (e .text)) (e .kinds) (ap answerOf (st .checked))
 
@@ -105,46 +99,84 @@ module _ (s : Style) where
         go false h = h
 
     module _ (all : AllStand s) (feature : List ℕ) where
-      -- ---- what is worked out
+      -- ---- an expression
 
       -- a name comes to a value of its kinds
-      pub named-conforms : (e : Expression) (x : List ℕ) → Conforms (kindsIn scope.Style s x) (named s feature vs e x)
+      pub named-conforms : (e : Expression) (x : List ℕ) → Conforms (kindsIn scope.Style s x) (nameOutcome s feature vs e x)
       named-conforms e x = defined-conforms (stringsOf s feature e) 0 0 (s .defines) (all .defines) x
 
       pub outcome-sound : (want : Wanted) (e : Expression) → Stands scope.Style want s e →
           (v : Value) × (outcomeOf s feature vs e ≡ Worked v) × T (has (e .kinds) (kindOf v)) × T (has (takenBy want) (kindOf v))
       unfolding outcomeOf
       outcome-sound want e st =
-          stands-sound scope.Style want e st (stringsOf s feature e) (length (definesText (s .defines))) (named s feature vs e) (named-conforms e)
+          stands-sound scope.Style want e st (stringsOf s feature e) (ownBase s) (nameOutcome s feature vs e) (named-conforms e)
 
       never-fails : (want : Wanted) (e : Expression) → Stands scope.Style want s e → fails want (outcomeOf s feature vs e) ≡ false
       never-fails want e st =
           let r = outcome-sound want e st in
           rw (r .1, is-true (has (takenBy want) (kindOf (r .0))) (r .3))
 
-      -- ---- all of it
+      -- ---- the nodes that are entered in it
 
-      abbrev AllFine : List (Asked Expression) → Type 0
-      AllFine = NoneFails (outcomeOf s feature vs)
+      defined-entries : (strings : Span → List ℕ) (base i : ℕ) (ds : List Define) →
+          Each (λ i (d : Define). Stands scope.Define wanted.Any s (d .expression)) i ds → (x : List ℕ) →
+          NoneFaults (byDefine (λ base d. entriesOf (contextAt strings base (propertyOutcome s vs) d) (λ p n. []) (d .tree)) base ds [] x)
+      defined-entries strings base i [] st x = tt
+      defined-entries strings base i (d ∷ ds) st x =
+          by-test NoneFaults (same x (d .name))
+          (λ _.
+          let r = stands-sound scope.Define wanted.Any (d .expression) (st .0) strings base (propertyOutcome s vs) property-conforms in
+          none-faults (contextAt strings base (propertyOutcome s vs) (d .expression)) (λ p n. []) (λ p n h. tt) (d .expression .tree) (ap isFault (r .1)))
+          (λ _. defined-entries strings (base + length (d .expression .text)) (suc i) ds (st .1) x)
 
-      all-fine : (want : Wanted) (i : ℕ) (es : List Expression) → Each (λ i (e : Expression). Stands scope.Style want s e) i es → AllFine (map (asked want) es)
-      all-fine want i [] st = tt
-      all-fine want i (e ∷ es) st = (never-fails want e (st .0), all-fine want (suc i) es (st .1))
+      never-faults : (want : Wanted) (e : Expression) → Stands scope.Style want s e → NoneFaults (entriesIn s feature vs e)
+      unfolding outcomeOf
+      never-faults want e st =
+          none-faults (contextAt (stringsOf s feature e) (ownBase s) (nameOutcome s feature vs e) e) (λ p n. namedEntries s feature vs e (nameAt (e .text) p))
+          (λ p n h. defined-entries (stringsOf s feature e) 0 0 (s .defines) (all .defines) (nameAt (e .text) p)) (e .tree)
+          (ap isFault (outcome-sound want e st .1))
+
+      -- ---- all that is worked out
+
+      -- each expression stands in the style
+      abbrev Stood : List (Asked Expression) → Type 0
+      Stood [] = Unit {0}
+      Stood (x ∷ xs) = Stands scope.Style (x .want) s (x .expression) × Stood xs
+
+      joined : (xs ys : List (Asked Expression)) → Stood xs → Stood ys → Stood (xs ++ ys)
+      joined [] ys f g = g
+      joined (x ∷ xs) ys f g = (f .0, joined xs ys (f .1) g)
+
+      all-stood : (want : Wanted) (i : ℕ) (es : List Expression) → Each (λ i (e : Expression). Stands scope.Style want s e) i es → Stood (map (asked want) es)
+      all-stood want i [] st = tt
+      all-stood want i (e ∷ es) st = (st .0, all-stood want (suc i) es (st .1))
 
       abbrev until : List (Condition Expression) → List (Asked Expression)
       until = untilTrue (valueOf s feature vs)
 
-      until-fine : (i : ℕ) (cs : List (Condition Expression)) →
-          Each (λ i (c : Condition Expression). Stands scope.Style wanted.Boolean s (c .test) × Stands scope.Style wanted.Vec4 s (c .colour)) i cs → AllFine (until cs)
-      until-fine i [] st = tt
-      until-fine i (c ∷ cs) st = (
-        never-fails wanted.Boolean (c .test) (st .0 .0),
-        by-test AllFine (truth (valueOf s feature vs (c .test))) (λ _. (never-fails wanted.Vec4 (c .colour) (st .0 .1), tt)) (λ _. until-fine (suc i) cs (st .1)),
+      until-stood : (i : ℕ) (cs : List (Condition Expression)) →
+          Each (λ i (c : Condition Expression). Stands scope.Style wanted.Boolean s (c .test) × Stands scope.Style wanted.Vec4 s (c .colour)) i cs → Stood (until cs)
+      until-stood i [] st = tt
+      until-stood i (c ∷ cs) st = (
+        st .0 .0,
+        by-test Stood (truth (valueOf s feature vs (c .test))) (λ _. (st .0 .1, tt)) (λ _. until-stood (suc i) cs (st .1)),
       )
 
-      pub none-fails : NoneFails (outcomeOf s feature vs) (workedOutOf s feature vs)
-      none-fails =
-          joined (outcomeOf s feature vs) (map (asked wanted.Boolean) (s .shows)) (until (s .conditions) ++ map (asked wanted.Vec4) (s .colours))
-          (all-fine wanted.Boolean 0 (s .shows) (all .shows))
-          (joined (outcomeOf s feature vs) (until (s .conditions)) (map (asked wanted.Vec4) (s .colours)) (until-fine 0 (s .conditions) (all .conditions))
-          (all-fine wanted.Vec4 0 (s .colours) (all .colours)))
+      worked-stood : Stood (workedOutOf s feature vs)
+      worked-stood =
+          joined (map (asked wanted.Boolean) (s .shows)) (until (s .conditions) ++ map (asked wanted.Vec4) (s .colours))
+          (all-stood wanted.Boolean 0 (s .shows) (all .shows))
+          (joined (until (s .conditions)) (map (asked wanted.Vec4) (s .colours)) (until-stood 0 (s .conditions) (all .conditions))
+          (all-stood wanted.Vec4 0 (s .colours) (all .colours)))
+
+      fails-none : (xs : List (Asked Expression)) → Stood xs → NoneFails (outcomeOf s feature vs) xs
+      fails-none [] st = tt
+      fails-none (x ∷ xs) st = (never-fails (x .want) (x .expression) (st .0), fails-none xs (st .1))
+
+      faults-none : (xs : List (Asked Expression)) → Stood xs → NoneFaults (entriesInAll s feature vs xs)
+      faults-none [] st = tt
+      faults-none (x ∷ xs) st =
+          none-joined (entriesIn s feature vs (x .expression)) (entriesInAll s feature vs xs) (never-faults (x .want) (x .expression) (st .0)) (faults-none xs (st .1))
+
+      pub none-fails : NoneFaults (entriesFor s feature vs) × NoneFails (outcomeOf s feature vs) (workedOutOf s feature vs)
+      none-fails = (faults-none (workedOutOf s feature vs) worked-stood, fails-none (workedOutOf s feature vs) worked-stood)

@@ -34,6 +34,7 @@ use Rattle.evaluator.specs.Eval.{valueIn}
 use Rattle.evaluator.specs.Arrays.{evalAt}
 use Rattle.style.specs.Answer.{Answer, refusal, accepted}
 use Rattle.style.specs.Style.{Condition}
+use Rattle.style.specs.Compile.{planAfter, treesAfter}
 use Rattle.feature.specs.Feature.{Values, complete, broken, setsOf, enteredOf, valuesOf, spansWith, floatsWith}
 use Rattle.output.specs.Line.{front}
 use Rattle.painter.specs.Given.{givenBy}
@@ -49,6 +50,10 @@ pub record Source : Type 0 where
 
 abbrev pub source : List ℕ → List ℕ → List ℕ → List ℕ → Source
 source head feature room plan = record { head = head; feature = feature; room = room; plan = plan }
+
+-- as `compile` leaves room and plan for a head, whatever stood in them before
+abbrev pub compiled : List ℕ → List ℕ → List ℕ → List ℕ → Source
+compiled head room plan feature = source head feature (treesAfter head room) (planAfter (length room) head plan)
 
 -- the spans and the floats of names' values
 abbrev pub Arrays : Type 0

@@ -1,7 +1,7 @@
 -- What the painter answers, and what it leaves in lent memory: page 01, "Refusal numbers" and "Checked examples".
 use mathlib.Core.Bool.{cond}
 use mathlib.Core.List.{List, map, _++_}
-use Prim.Native.Nat.{ℕ, min}
+use Prim.Native.Nat.{ℕ}
 use lib.Dec.{ltb}
 use lib.ListN.{length, drop}
 use Rattle.lexer.specs.Refusal.{Judged, refused, fine, refusalAt}
@@ -13,7 +13,7 @@ use Rattle.style.specs.Style.{Declared, Style}
 use Rattle.style.specs.Head.{styleOf}
 use Rattle.style.specs.Head as style
 use Rattle.feature.specs.Feature.{Values, complete, broken, enteredOf}
-use Rattle.output.specs.Line.{front, paintedLine, refusedFeature}
+use Rattle.output.specs.Line.{paintedLine, refusedFeature}
 use Rattle.painter.specs.Meaning.{givenOf}
 use Rattle.painter.specs.declared.answer.Given.{Given}
 use Rattle.painter.specs.declared.answer.Drawn.{Drawn}
@@ -97,12 +97,10 @@ roomAfter bytes room = cond (ltb bytes leastBytes) room (style.roomAfter room)
 -- ---- what is printed
 
 -- the line of a feature: `1→true→#00FF0080`, or `3→refused→9→5`
-abbrev pub printedLine : Answer Written → ℕ → List ℕ
-printedLine (refusal line r) number = refusedFeature number (r .number) (r .place)
-printedLine (accepted w) number = givenLine number (w .given)
+abbrev pub featureLine : ℕ → Answer Given → List ℕ
+featureLine number (refusal line r) = refusedFeature number (r .number) (r .place)
+featureLine number (accepted given) = givenLine number given
 
--- The buffer after a call, and how many of its first bytes are that line: a painted one's stand there already, and a refused one's are
--- written, if they fit.
-abbrev pub printedBy : Answer Written → ℕ → List ℕ → List ℕ × ℕ
-printedBy (refusal line r) number out = front out (refusedFeature number (r .number) (r .place))
-printedBy (accepted w) number out = (out, min (w .bytes) (length out))
+-- what a call gives, its line aside
+abbrev pub givenIn : Answer Written → Answer Given
+givenIn a = onAccepted a (λ w. accepted (w .given))

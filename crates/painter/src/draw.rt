@@ -1,6 +1,5 @@
 // What the expressions of a style come to for the values of a feature.
 ghost use mathlib.Core.Path.{_≡_};
-ghost use Prim.Native.Nat.{min};
 ghost use Rattle.painter.specs.Given.{shownBy, colourBy, conditionedBy, colouredBy};
 ghost use Rattle.painter.specs.Applied.{source, rowValue, allDefined, showRows, colourRows, conditionRows, givenAt};
 use crate::answer::Given;
@@ -9,6 +8,7 @@ use colour::colour::Colouring;
 use evaluator::evaluate::evaluate;
 use evaluator::operation::value_in;
 use evaluator::values::store;
+use lexer::bytes::least;
 use plan::layout::COLOUR;
 use plan::layout::COLOURS;
 use plan::layout::CONDITIONS;
@@ -65,12 +65,6 @@ fn row_value(
     value_in(evaluate(style, feature, slots, spans, floats, from, root))
 }
 
-pub(crate) fn at_most(count: usize, most: usize) -> usize
-    ensures { λ r. ⌜ r ≡ min count most ⌝ }
-{
-    if count < most { count } else { most }
-}
-
 // The defines in turn; the value of each is stored for whoever names it.
 fn store_defines(
     head: &[u8],
@@ -84,7 +78,7 @@ fn store_defines(
         (source (now (head .entry)) (now (feature .entry)) (now (room .entry)) (now (plan .entry)))
         (now (spans .entry), now (floats .entry)) ⌝ }
 {
-    let count = at_most(number_at(plan, DEFINES), MOST_DEFINES);
+    let count = least(number_at(plan, DEFINES), MOST_DEFINES);
     let mut i = 0;
     while i < count {
         let value = row_value(head, feature, room, plan, spans, floats, i);
@@ -143,7 +137,7 @@ fn condition(
         (rowValue (source (now (head .entry)) (now (feature .entry)) (now (room .entry)) (now (plan .entry)))
         (now (spans .entry), now (floats .entry))) (conditionRows (now (plan .entry))) ⌝ }
 {
-    let count = at_most(number_at(plan, CONDITIONS), MOST_CONDITIONS);
+    let count = least(number_at(plan, CONDITIONS), MOST_CONDITIONS);
     let mut k = 0;
     while k < count {
         let row = FIRST_CONDITION + 2 * k;

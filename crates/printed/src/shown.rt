@@ -4,7 +4,8 @@
 ghost use mathlib.Core.Path.{_≡_};
 ghost use Rattle.tree.specs.Node.{treeAt, argumentsAt};
 ghost use Rattle.output.specs.Page.{written};
-ghost use Rattle.printed.specs.Shown.{tokenAt, signOf, openedOf, betweenOf, behindOf, calledOf, commaOf, closedOf, variableOf, nameOf, unaryOf, binaryOf, conditionalOf, callOf, bareOf, pickOf, shown, shownAll};
+ghost use Rattle.printed.specs.Shown.{tokenAt, signOf, openedOf, betweenOf, behindOf, calledOf, commaOf, closedOf, variableOf};
+ghost use Rattle.printed.specs.Shown.{nameOf, unaryOf, binaryOf, conditionalOf, callOf, bareOf, pickOf, shown, shownAll};
 use crate::word;
 use lexer::token::Lexeme;
 use lexer::token::token_at;
@@ -126,7 +127,8 @@ fn unary(
     part: usize,
     allowance: usize,
 ) -> usize
-    ensures { λ r. ⌜ (now (page .exit), r) ≡ written (now (page .entry), to) (unaryOf operator (shown numbered (now (text .entry)) (treeAt allowance (now (slots .entry)) part))) ⌝ }
+    ensures { λ r. ⌜ (now (page .exit), r) ≡ written (now (page .entry), to)
+        (unaryOf operator (shown numbered (now (text .entry)) (treeAt allowance (now (slots .entry)) part))) ⌝ }
 {
     let mut end = opened(page, to, operator);
     end = tree(page, end, text, numbered, slots, part, allowance);
@@ -144,7 +146,9 @@ fn binary(
     right: usize,
     allowance: usize,
 ) -> usize
-    ensures { λ r. ⌜ (now (page .exit), r) ≡ written (now (page .entry), to) (binaryOf operator (shown numbered (now (text .entry)) (treeAt allowance (now (slots .entry)) left)) (shown numbered (now (text .entry)) (treeAt allowance (now (slots .entry)) right))) ⌝ }
+    ensures { λ r. ⌜ (now (page .exit), r) ≡ written (now (page .entry), to)
+        (binaryOf operator (shown numbered (now (text .entry)) (treeAt allowance (now (slots .entry)) left))
+        (shown numbered (now (text .entry)) (treeAt allowance (now (slots .entry)) right))) ⌝ }
 {
     let mut end = page::byte(page, to, b'(');
     end = tree(page, end, text, numbered, slots, left, allowance);
@@ -164,7 +168,10 @@ fn conditional(
     second: usize,
     allowance: usize,
 ) -> usize
-    ensures { λ r. ⌜ (now (page .exit), r) ≡ written (now (page .entry), to) (conditionalOf (shown numbered (now (text .entry)) (treeAt allowance (now (slots .entry)) test)) (shown numbered (now (text .entry)) (treeAt allowance (now (slots .entry)) first)) (shown numbered (now (text .entry)) (treeAt allowance (now (slots .entry)) second))) ⌝ }
+    ensures { λ r. ⌜ (now (page .exit), r) ≡ written (now (page .entry), to)
+        (conditionalOf (shown numbered (now (text .entry)) (treeAt allowance (now (slots .entry)) test))
+        (shown numbered (now (text .entry)) (treeAt allowance (now (slots .entry)) first))
+        (shown numbered (now (text .entry)) (treeAt allowance (now (slots .entry)) second))) ⌝ }
 {
     let mut end = page::byte(page, to, b'(');
     end = tree(page, end, text, numbered, slots, test, allowance);
@@ -186,7 +193,8 @@ fn arguments(
     allowance: usize,
     commas: usize,
 ) -> usize
-    ensures { λ r. ⌜ (now (page .exit), r) ≡ written (now (page .entry), to) (shownAll numbered (now (text .entry)) (argumentsAt (treeAt allowance (now (slots .entry))) commas (now (slots .entry)) at)) ⌝ }
+    ensures { λ r. ⌜ (now (page .exit), r) ≡ written (now (page .entry), to)
+        (shownAll numbered (now (text .entry)) (argumentsAt (treeAt allowance (now (slots .entry))) commas (now (slots .entry)) at)) ⌝ }
 {
     if commas == 0 {
         return tree(page, to, text, numbered, slots, at, allowance);
@@ -220,7 +228,9 @@ fn call(
     at: usize,
     allowance: usize,
 ) -> usize
-    ensures { λ r. ⌜ (now (page .exit), r) ≡ written (now (page .entry), to) (callOf function (shownAll numbered (now (text .entry)) (argumentsAt (treeAt allowance (now (slots .entry))) 1024 (now (slots .entry)) at))) ⌝ }
+    ensures { λ r. ⌜ (now (page .exit), r) ≡ written (now (page .entry), to)
+        (callOf function (shownAll numbered (now (text .entry))
+        (argumentsAt (treeAt allowance (now (slots .entry))) 1024 (now (slots .entry)) at))) ⌝ }
 {
     let mut end = called(page, to, function);
     end = arguments(page, end, text, numbered, slots, at, allowance, MOST_COMMAS);
@@ -245,7 +255,8 @@ fn pick(
     part: usize,
     allowance: usize,
 ) -> usize
-    ensures { λ r. ⌜ (now (page .exit), r) ≡ written (now (page .entry), to) (pickOf index (shown numbered (now (text .entry)) (treeAt allowance (now (slots .entry)) part))) ⌝ }
+    ensures { λ r. ⌜ (now (page .exit), r) ≡ written (now (page .entry), to)
+        (pickOf index (shown numbered (now (text .entry)) (treeAt allowance (now (slots .entry)) part))) ⌝ }
 {
     let end = tree(page, to, text, numbered, slots, part, allowance);
     behind(page, end, index)
@@ -261,7 +272,8 @@ pub fn tree(
     at: usize,
     allowance: usize,
 ) -> usize
-    ensures { λ r. ⌜ (now (page .exit), r) ≡ written (now (page .entry), to) (shown numbered (now (text .entry)) (treeAt allowance (now (slots .entry)) at)) ⌝ }
+    ensures { λ r. ⌜ (now (page .exit), r) ≡ written (now (page .entry), to)
+        (shown numbered (now (text .entry)) (treeAt allowance (now (slots .entry)) at)) ⌝ }
 {
     if page.len() <= to {
         return to;

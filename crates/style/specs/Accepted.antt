@@ -7,21 +7,20 @@ use mathlib.Core.Logic.{_⊎_}
 use lib.ListN.{length}
 use Rattle.lexer.specs.Refusal.{fine}
 use Rattle.syntax.specs.Judge.{judgedOf}
-use Rattle.checker.specs.Name.{nameAt}
-use Rattle.checker.specs.Kinds.{kindsOf, resultOf}
 use Rattle.checker.specs.declared.name.Scope.{Scope}
 use Rattle.checker.specs.declared.name.Scope.the-variants as scope
 use Rattle.checker.specs.declared.check.Verdict.the-variants as verdict
 use Rattle.checker.specs.declared.check.Wanted.{Wanted}
 use Rattle.checker.specs.declared.check.Wanted.the-variants as wanted
 use Rattle.style.specs.Style.{Declared, Expression, Define, Condition, Style, kindsIn}
+use Rattle.style.specs.Expression.{verdictOn}
 use Rattle.style.specs.Holds.{Each, Few}
 use Rattle.style.specs.Items.{isDeclared}
 
 -- its tree is the one of its text, and it has its kinds by what the names stand for in the style, each of them wanted
 pub record Stands (c : Scope) (want : Wanted) (s : Style) (e : Expression) : Type 0 where
   pub judged : judgedOf (e .text) ≡ fine (e .tree)
-  pub checked : resultOf want (length (e .text)) (kindsOf (λ p n. kindsIn c s (nameAt (e .text) p)) (e .tree)) ≡ verdict.Accepted (e .kinds)
+  pub checked : verdictOn (kindsIn c s) want (e .text) (e .tree) ≡ verdict.Accepted (e .kinds)
 
 pub record AllStand (s : Style) : Type 0 where
   pub defines : Each (λ i (d : Define). Stands scope.Define wanted.Any s (d .expression)) 0 (s .defines)

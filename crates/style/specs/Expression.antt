@@ -10,15 +10,19 @@ use Rattle.syntax.specs.Judge.{judgedOf}
 use Rattle.checker.specs.Name.{nameAt}
 use Rattle.checker.specs.Kinds.{kindsOf, resultOf}
 use Rattle.checker.specs.Check.{answerOf}
+use Rattle.checker.specs.declared.check.Verdict.{Verdict}
 use Rattle.checker.specs.declared.check.Wanted.{Wanted}
 use Rattle.style.specs.Style.{Expression}
+
+-- the checker's verdict on the tree of a text, by the kinds that each name stands for
+abbrev pub verdictOn : (List ℕ → Kinds) → Wanted → List ℕ → Tree → Verdict
+verdictOn look want text e = resultOf want (length text) (kindsOf (λ p n. look (nameAt text p)) e)
 
 -- 7
 abbrev pub byKinds : Judged Kinds → List ℕ → Tree → Judged Expression
 byKinds j text e = onFine j (λ k. fine (record { text = text; tree = e; kinds = k }))
 
--- 1 to 6, and then 7, by the kinds that each name stands for
+-- 1 to 6, and then 7
 unfoldable pub expressionOf : (List ℕ → Kinds) → Wanted → List ℕ → Judged Expression
 unfolding judgedOf nameAt kindsOf
-expressionOf look want text =
-    onFine (judgedOf text) (λ e. byKinds (answerOf (resultOf want (length text) (kindsOf (λ p n. look (nameAt text p)) e))) text e)
+expressionOf look want text = onFine (judgedOf text) (λ e. byKinds (answerOf (verdictOn look want text e)) text e)

@@ -44,7 +44,8 @@ use Rattle.text.specs.declared.part.Part.{Part}
 use Rattle.text.specs.declared.word.Line.{Line}
 use Rattle.text.specs.declared.word.Line.the-variants as word
 use Rattle.style.specs.Answer.{Answer, accepted, onAccepted}
-use Rattle.style.specs.Style.{Declared, Expression, Define, Condition, Style, property, define, show, colour, condition, admits, nameOf, defineName, kindsIn, numberIn}
+use Rattle.style.specs.Style.{Declared, Expression, Define, Condition, Style, property, define, show, colour, condition, admits}
+use Rattle.style.specs.Style.{nameOf, defineName, kindsIn, numberIn}
 use Rattle.style.specs.Style as style
 use Rattle.style.specs.Expression.{expressionOf}
 use Rattle.style.specs.Item.{isNew, onFlags, itemBy, itemOf, defineJudged, expression, itemJudged, lineSaid}
@@ -90,7 +91,8 @@ pub record Reads (head names plan : List ℕ) (s : Style) : Type 0 where
 
 abbrev pub admitsBy : List ℕ → Line → Bool
 admitsBy plan l =
-    admits l (numberAt plan propertyCount) (numberAt plan defineCount) (numberAt plan showCount) (numberAt plan colourCount) (numberAt plan conditionCount)
+    admits l (numberAt plan propertyCount) (numberAt plan defineCount) (numberAt plan showCount) (numberAt plan colourCount)
+    (numberAt plan conditionCount)
 
 abbrev pub eight : ℕ → Item
 eight p = read.Refused (refusalAt 8 p)
@@ -115,7 +117,8 @@ ItemLies line (read.Condition test result) = FieldLies line 1 test × FieldLies 
 abbrev pub ItemIs : List ℕ → Item → Judged item.Item → Type 0
 ItemIs line (read.Refused r) j = j ≡ refused r
 ItemIs line (read.Property name k) j =
-    (d : Declared) × (j ≡ fine (item.property d)) × (d .name ≡ parts.field line 1) × (isName (parts.field line 1) ≡ true) × (k ≡ packedOf (propertyKinds (d .property)))
+    (d : Declared) × (j ≡ fine (item.property d)) × (d .name ≡ parts.field line 1) × (isName (parts.field line 1) ≡ true)
+    × (k ≡ packedOf (propertyKinds (d .property)))
 ItemIs line (read.Define name text) j =
     (j ≡ fine (item.define (parts.field line 1) (parts.field line 2))) × (isName (parts.field line 1) ≡ true)
 ItemIs line (read.Show text) j = j ≡ fine (item.show (parts.field line 1))
@@ -141,7 +144,8 @@ abbrev pub FlagsBy : List ℕ → Part → Kind → Item → Type 0
 FlagsBy line name t r =
     Of word.Prop r
     × (FieldLies line 1 name → ItemLies line r)
-    × (isName (parts.field line 1) ≡ true → ItemIs line r (onFlags (flagsOf (parts.field line 3)) (fieldStart line 3) (parts.field line 1) t))
+    × (isName (parts.field line 1) ≡ true →
+    ItemIs line r (onFlags (flagsOf (parts.field line 3)) (fieldStart line 3) (parts.field line 1) t))
 
 abbrev pub PropertyBy : List ℕ → List ℕ → List ℕ → Item → Type 0
 PropertyBy head names line r = WordBy word.Prop (λ s. (plan : List ℕ) × Reads head names plan s) line r
@@ -200,7 +204,8 @@ pub record Enters (number : List ℕ → ℕ) (text w v : List ℕ) (root byte :
 abbrev pub EnteredBy : Purpose → List ℕ → List ℕ → List ℕ → List ℕ → List ℕ → List ℕ → Entered → Type 0
 EnteredBy q head names plan text w v (entered.Refused r) = (s : Style) → Reads head names plan s → judgedFor q s text ≡ refused r
 EnteredBy q head names plan text w v (entered.Accepted root byte) =
-    (s : Style) → Reads head names plan s → (e : Expression) × (judgedFor q s text ≡ fine e) × Enters (numberIn (scopeOf q) s) text w v root byte e
+    (s : Style) → Reads head names plan s →
+    (e : Expression) × (judgedFor q s text ≡ fine e) × Enters (numberIn (scopeOf q) s) text w v root byte e
 
 -- what the code has of an expression of a line
 pub record Lain (line : List ℕ) (i : ℕ) (x : code.Expression) (e : Expression) : Type 0 where
@@ -215,7 +220,8 @@ FieldBy q p head names plan line w v (field.Refused r) =
     (i : ℕ) → FieldLies line i p → (s : Style) → Reads head names plan s → judgedFor q s (parts.field line i) ≡ refused r
 FieldBy q p head names plan line w v (field.Accepted x) =
     (i : ℕ) → FieldLies line i p → (s : Style) → Reads head names plan s →
-    (e : Expression) × (judgedFor q s (parts.field line i) ≡ fine e) × Lain line i x e × (v ≡ laid (numberIn (scopeOf q) s) (fieldStart line i) e w)
+    (e : Expression) × (judgedFor q s (parts.field line i) ≡ fine e) × Lain line i x e
+    × (v ≡ laid (numberIn (scopeOf q) s) (fieldStart line i) e w)
 
 -- ---- what a line adds
 
@@ -251,7 +257,8 @@ AddedBy l (entry.Condition x y) = l ≡ word.Cond
 abbrev pub DefinedBy : List ℕ → List ℕ → List ℕ → List ℕ → List ℕ → List ℕ → Entry → Type 0
 DefinedBy head names plan line w v r =
     AddedBy word.Define r
-    × ((s : Style) → Reads head names plan s → isName (parts.field line 1) ≡ true → EntryIs s line w v r (defineJudged s (parts.field line 1) (parts.field line 2)))
+    × ((s : Style) → Reads head names plan s → isName (parts.field line 1) ≡ true →
+    EntryIs s line w v r (defineJudged s (parts.field line 1) (parts.field line 2)))
 
 abbrev pub singlePurpose : Bool → Purpose
 singlePurpose c = cond c purpose.Colour purpose.Test
@@ -270,13 +277,15 @@ SingleJudgedBy c head names plan line w v r =
 abbrev pub ColouredBy : code.Expression → List ℕ → List ℕ → List ℕ → List ℕ → List ℕ → List ℕ → Entry → Type 0
 ColouredBy x head names plan line w v r =
     AddedBy word.Cond r
-    × ((s : Style) → Reads head names plan s → (w₀ : List ℕ) (t : Expression) → Lain line 1 x t → w ≡ laid (numberIn scope.Style s) (fieldStart line 1) t w₀ →
+    × ((s : Style) → Reads head names plan s → (w₀ : List ℕ) (t : Expression) → Lain line 1 x t →
+    w ≡ laid (numberIn scope.Style s) (fieldStart line 1) t w₀ →
     EntryIs s line w₀ v r (expression s wanted.Vec4 (parts.field line 2) (λ e. fine (condition (record { test = t; colour = e })))))
 
 abbrev pub ConditionJudgedBy : List ℕ → List ℕ → List ℕ → List ℕ → List ℕ → List ℕ → Entry → Type 0
 ConditionJudgedBy head names plan line w v r =
     AddedBy word.Cond r
-    × ((s : Style) → Reads head names plan s → EntryIs s line w v r (itemJudged s (item.condition (parts.field line 1) (parts.field line 2))))
+    × ((s : Style) → Reads head names plan s →
+    EntryIs s line w v r (itemJudged s (item.condition (parts.field line 1) (parts.field line 2))))
 
 abbrev pub isRefused : Entry → Bool
 isRefused (entry.Refused r) = true

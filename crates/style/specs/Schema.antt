@@ -8,7 +8,7 @@ use Rattle.text.specs.Parts.{lines, bytesOf, field}
 use Rattle.text.specs.Word.{lineOf}
 use Rattle.text.specs.declared.word.Line.{Line}
 use Rattle.text.specs.declared.word.Line.the-variants as word
-use Rattle.style.specs.Style.{Style}
+use Rattle.style.specs.Style.{Style, listed}
 
 -- a line's word is `prop`
 abbrev pub isProperty : Line → Bool
@@ -31,4 +31,4 @@ schemaText head = take (bytesOf (propertyLines (lines head))) head
 
 -- what the `prop` lines of a style give alone
 abbrev pub propertiesOf : Style → Style
-propertiesOf s = record { properties = s .properties; defines = []; shows = []; colours = []; conditions = [] }
+propertiesOf s = listed (s .properties) [] [] [] []

@@ -43,8 +43,11 @@ pub record Style : Type 0 where
   pub colours : List Expression
   pub conditions : List (Condition Expression)
 
+abbrev pub listed : List Declared → List Define → List Expression → List Expression → List (Condition Expression) → Style
+listed ps ds ss cs ks = record { properties = ps; defines = ds; shows = ss; colours = cs; conditions = ks }
+
 abbrev pub empty : Style
-empty = record { properties = []; defines = []; shows = []; colours = []; conditions = [] }
+empty = listed [] [] [] [] []
 
 -- ---- what a line adds
 
@@ -56,11 +59,11 @@ pub data Entry : Type 0 where
   condition : Condition Expression → Entry
 
 abbrev pub with : Style → Entry → Style
-with s (property d) = record { properties = s .properties ++ d ∷ []; defines = s .defines; shows = s .shows; colours = s .colours; conditions = s .conditions }
-with s (define d) = record { properties = s .properties; defines = s .defines ++ d ∷ []; shows = s .shows; colours = s .colours; conditions = s .conditions }
-with s (show e) = record { properties = s .properties; defines = s .defines; shows = s .shows ++ e ∷ []; colours = s .colours; conditions = s .conditions }
-with s (colour e) = record { properties = s .properties; defines = s .defines; shows = s .shows; colours = s .colours ++ e ∷ []; conditions = s .conditions }
-with s (condition c) = record { properties = s .properties; defines = s .defines; shows = s .shows; colours = s .colours; conditions = s .conditions ++ c ∷ [] }
+with s (property d) = listed (s .properties ++ d ∷ []) (s .defines) (s .shows) (s .colours) (s .conditions)
+with s (define d) = listed (s .properties) (s .defines ++ d ∷ []) (s .shows) (s .colours) (s .conditions)
+with s (show e) = listed (s .properties) (s .defines) (s .shows ++ e ∷ []) (s .colours) (s .conditions)
+with s (colour e) = listed (s .properties) (s .defines) (s .shows) (s .colours ++ e ∷ []) (s .conditions)
+with s (condition c) = listed (s .properties) (s .defines) (s .shows) (s .colours) (s .conditions ++ c ∷ [])
 
 -- ---- which line may stand behind so many others
 

@@ -2,7 +2,8 @@
 ghost use mathlib.Core.Path.{_≡_};
 ghost use Prim.Native.Nat.{_≤_};
 ghost use lib.ListN.{length};
-ghost use Rattle.style.specs.Inner.{isRefused, singleEntry, singlePurpose, FieldLies, ItemLies, FieldBy, DefinedBy, SingleJudgedBy, ColouredBy, ConditionJudgedBy, JudgedBy, ReadBy};
+ghost use Rattle.style.specs.Inner.{isRefused, singleEntry, singlePurpose, FieldLies, ItemLies, FieldBy, DefinedBy, SingleJudgedBy};
+ghost use Rattle.style.specs.Inner.{ColouredBy, ConditionJudgedBy, JudgedBy, ReadBy};
 use crate::expression::Entered;
 use crate::expression::Purpose;
 use crate::expression::enter;

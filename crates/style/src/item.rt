@@ -2,7 +2,8 @@
 ghost use mathlib.Core.Path.{_≡_};
 ghost use lib.ListN.{length};
 ghost use Rattle.text.specs.Parts.{fields};
-ghost use Rattle.style.specs.Inner.{admitsBy, isNewProperty, isNewDefine, eight, singleItem, FlagsBy, PropertyBy, DefineBy, SingleBy, ConditionBy, ItemBy};
+ghost use Rattle.style.specs.Inner.{admitsBy, isNewProperty, isNewDefine, eight, singleItem, FlagsBy, PropertyBy, DefineBy};
+ghost use Rattle.style.specs.Inner.{SingleBy, ConditionBy, ItemBy};
 use checker::name;
 use checker::name::Scope;
 use checker::property::kinds;

@@ -10,3 +10,4 @@ pub mod Text
 pub mod Places
 pub mod Judged
 pub mod Written
+pub mod Anchored

@@ -11,11 +11,12 @@ use Rattle.lexer.specs.Refusal.{Judged, fine}
 use Rattle.lexer.specs.Refusal as judged
 use Rattle.lexer.specs.Scan.{scanOf}
 use Rattle.tree.specs.Tree.{Tree, literal, variable, unary, binary, bare, call, pick, place, Arguments, last, next}
-use Rattle.tree.specs.Slots.{functionTag, operatorTag, commaTag, Shape, before, between, shapeOf, shapesOf, store}
+use Rattle.tree.specs.Slots.{tags, functionTag, questionTag, colonTag, operatorTag, commaTag, pickTag, Shape, before, between, shapeOf, shapesOf, store}
 use Rattle.tree.specs.Node.{treeAt}
 use Rattle.tree.specs.Fits.{Within, Known, KnownAll}
 use Rattle.tree.proofs.Law.Places.{within-le, within-wider, length-lay}
 use Rattle.tree.proofs.Back.{Holds, holds-lay, holds-more, read-back}
+use Rattle.syntax.specs.Sizes.{mostBytes, mostHeight}
 use Rattle.syntax.specs.Symbol.{question, colon, openRound, closeRound, openSquare, closeSquare, comma, dot, word, end, symbolAt, is, isLiteral, formOf, isIndex, indexOf, isWord, isPrefix, precedenceOf, levels, hasPrecedence, functionOf, memberOf}
 use Rattle.syntax.specs.Symbol as symbol
 use Rattle.syntax.specs.Parser.{
@@ -176,11 +177,11 @@ module _ {A B : Type 0} {shapeA : A → Shape} {knownA : A → Type 0} {shapeB :
 
 -- ---- nodes
 
-within-between : (lo p hi tag : ℕ) (l r : Shape) → tag < 64 → Within lo p l → Within (p + 1) hi r → Within lo hi (between p tag l r)
+within-between : (lo p hi tag : ℕ) (l r : Shape) → tag < tags → Within lo p l → Within (p + 1) hi r → Within lo hi (between p tag l r)
 unfolding Within
 within-between lo p hi tag l r small t u = (within-le l t, within-le r u, small, t, u)
 
-within-before : (lo p hi tag : ℕ) (s : Shape) → lo ≤ p → tag < 64 → Within (p + 1) hi s → Within lo hi (before p tag s)
+within-before : (lo p hi tag : ℕ) (s : Shape) → lo ≤ p → tag < tags → Within (p + 1) hi s → Within lo hi (before p tag s)
 unfolding Within
 within-before lo p hi tag s from small t = (from, within-le s t, small, t)
 
@@ -190,12 +191,12 @@ module _ {text : List ℕ} {lo : ℕ} where
   unfolding Known
   fit-chosen {c} (branches q a b) h i = record {
     sound = i .sound;
-    tidy = within-between _ _ _ (operatorTag 0) (shapeOf c) (branchesShape (branches q a b)) (omega arith) (h .tidy) (i .tidy);
+    tidy = within-between _ _ _ questionTag (shapeOf c) (branchesShape (branches q a b)) (omega arith) (h .tidy) (i .tidy);
     fits = (h .fits, i .fits .0, i .fits .1);
   }
 
   fit-branches : {a b : Tree} {x t : Symbol} → Fit shapeOf Known text lo a x → Fit shapeOf Known text (x .at + 1) b t → Fit branchesShape KnownBranches text lo (branches (x .at) a b) t
-  fit-branches {a} {b} h i = record { sound = i .sound; tidy = within-between _ _ _ (operatorTag 1) (shapeOf a) (shapeOf b) (omega arith) (h .tidy) (i .tidy); fits = (h .fits, i .fits) }
+  fit-branches {a} {b} h i = record { sound = i .sound; tidy = within-between _ _ _ colonTag (shapeOf a) (shapeOf b) (omega arith) (h .tidy) (i .tidy); fits = (h .fits, i .fits) }
 
   fit-binary : {l r : Tree} {x t : Symbol} → (1 < x .number) × (x .number < 15) → Fit shapeOf Known text lo l x → Fit shapeOf Known text (x .at + 1) r t →
       Fit shapeOf Known text lo (binary (x .at) (x .number) l r) t
@@ -203,7 +204,7 @@ module _ {text : List ℕ} {lo : ℕ} where
   fit-binary {l} {r} {x} o h i = record {
     sound = i .sound;
     tidy = within-between _ _ _ (operatorTag (x .number)) (shapeOf l) (shapeOf r) (omega (arith, o)) (h .tidy) (i .tidy);
-    fits = (o .0, o .1, h .fits, i .fits);
+    fits = (omega (arith, o), omega (arith, o), h .fits, i .fits);
   }
 
   fit-next : {e : Tree} {xs : Arguments} {x t : Symbol} → Fit shapeOf Known text lo e x → Fit shapesOf KnownAll text (x .at + 1) xs t → Fit shapesOf KnownAll text lo (next e (x .at) xs) t
@@ -220,11 +221,11 @@ module _ {text : List ℕ} {lo : ℕ} where
       let o = prefix-operator x q in
       record { sound = h .sound; tidy = within-before _ _ _ (x .number) (shapeOf e) from (omega arith) (h .tidy); fits = (o .0, o .1, h .fits) }
 
-  fit-call : {xs : Arguments} {t : Symbol} (p f : ℕ) → lo ≤ p → f < 24 → Fit shapesOf KnownAll text (p + 1) xs t → Fit shapeOf Known text lo (call p f xs) t
+  fit-call : {xs : Arguments} {t : Symbol} (p f : ℕ) → lo ≤ p → functionTag f < questionTag → Fit shapesOf KnownAll text (p + 1) xs t → Fit shapeOf Known text lo (call p f xs) t
   unfolding Known
   fit-call {xs} p f from small h = record { sound = h .sound; tidy = within-before _ _ _ (functionTag f) (shapesOf xs) from (omega arith) (h .tidy); fits = (small, h .fits) }
 
-  fit-bare : {t : Symbol} (p f : ℕ) → lo ≤ p → f < 24 → p + 1 < t .at → Sound text t → Fit shapeOf Known text lo (bare p f) t
+  fit-bare : {t : Symbol} (p f : ℕ) → lo ≤ p → functionTag f < questionTag → p + 1 < t .at → Sound text t → Fit shapeOf Known text lo (bare p f) t
   unfolding Known Within
   fit-bare p f from small less s = record { sound = s; tidy = (from, less, omega arith, omega arith); fits = small }
 
@@ -240,7 +241,7 @@ module _ {text : List ℕ} {lo : ℕ} where
       let long = i .sound .long (eqb-true (x .number) 35 (p .passed)) in
       record { sound = p .on .sound; tidy = (i .from, omega (arith, p .later), omega arith, omega arith); fits = tt }
 
-  fit-pick : {e : Tree} {x t : Symbol} (i : ℕ) → i < 8 → Fit shapeOf Known text lo e x → x .at + 1 < t .at → Sound text t → Fit shapeOf Known text lo (pick (x .at) i e) t
+  fit-pick : {e : Tree} {x t : Symbol} (i : ℕ) → pickTag i < tags → Fit shapeOf Known text lo e x → x .at + 1 < t .at → Sound text t → Fit shapeOf Known text lo (pick (x .at) i e) t
   unfolding Known Within
   fit-pick {e} i small h less s = record { sound = s; tidy = (within-le (shapeOf e) (h .tidy), less, omega arith, h .tidy); fits = (small, h .fits) }
 
@@ -335,7 +336,7 @@ parsed-fits text e y h =
 
 module _ (text : List ℕ) where
   abbrev Right : Tree → Type 0
-  Right e = (length text ≤ 1024) × (heightOf e ≤ 64) × Within 0 (length text) (shapeOf e) × Known e
+  Right e = (length text ≤ mostBytes) × (heightOf e ≤ mostHeight) × Within 0 (length text) (shapeOf e) × Known e
 
   abbrev IfFine : Judged Tree → Type 0
   IfFine (fine e) = Right e
@@ -345,28 +346,28 @@ module _ (text : List ℕ) where
   names-right (At p) e h = tt
   names-right Nothing e h = h
 
-  height-right : (b : Bool) (e : Tree) → ltb 64 (heightOf e) ≡ b → (heightOf e ≤ 64 → Right e) → IfFine (byHeight b text e)
+  height-right : (b : Bool) (e : Tree) → ltb mostHeight (heightOf e) ≡ b → (heightOf e ≤ mostHeight → Right e) → IfFine (byHeight b text e)
   height-right true e q h = tt
-  height-right false e q h = names-right (leftmostOf (unknownIn text e)) e (h (ltb-false 64 (heightOf e) q))
+  height-right false e q h = names-right (leftmostOf (unknownIn text e)) e (h (ltb-false mostHeight (heightOf e) q))
 
-  grammar-right : (r : Result Symbol Tree) → parseOf text ≡ r → length text ≤ 1024 → IfFine (byGrammar r text)
-  grammar-right (part e y) q most = height-right (ltb 64 (heightOf e)) e refl (λ low. (let d = parsed-fits text e y q in (most, low, d .0, d .1)))
+  grammar-right : (r : Result Symbol Tree) → parseOf text ≡ r → length text ≤ mostBytes → IfFine (byGrammar r text)
+  grammar-right (part e y) q most = height-right (ltb mostHeight (heightOf e)) e refl (λ low. (let d = parsed-fits text e y q in (most, low, d .0, d .1)))
   grammar-right (refused y) q most = tt
   grammar-right spent q most = tt
 
-  tokens-right : (v : Judged (Unit {0})) → length text ≤ 1024 → IfFine (byTokens v text)
+  tokens-right : (v : Judged (Unit {0})) → length text ≤ mostBytes → IfFine (byTokens v text)
   tokens-right (judged.refused r) most = tt
   tokens-right (fine a) most = grammar-right (parseOf text) refl most
 
-  size-right : (b : Bool) → ltb 1024 (length text) ≡ b → IfFine (bySize b text)
+  size-right : (b : Bool) → ltb mostBytes (length text) ≡ b → IfFine (bySize b text)
   size-right true q = tt
-  size-right false q = tokens-right (scanOf text) (ltb-false 1024 (length text) q)
+  size-right false q = tokens-right (scanOf text) (ltb-false mostBytes (length text) q)
 
   judged-right : IfFine (judgedOf text)
   unfolding judgedOf
-  judged-right = size-right (ltb 1024 (length text)) refl
+  judged-right = size-right (ltb mostBytes (length text)) refl
 
-pub judged-fits : (text : List ℕ) (e : Tree) → judgedOf text ≡ fine e → (length text ≤ 1024) × (heightOf e ≤ 64) × Within 0 (length text) (shapeOf e) × Known e
+pub judged-fits : (text : List ℕ) (e : Tree) → judgedOf text ≡ fine e → (length text ≤ mostBytes) × (heightOf e ≤ mostHeight) × Within 0 (length text) (shapeOf e) × Known e
 judged-fits text e h = subst (IfFine text) h (judged-right text)
 
 -- The slots after a call hold the tree that was judged, and are as many as before.

@@ -1,4 +1,5 @@
 pub mod Symbols
+pub mod Operators
 pub mod Steps
 pub mod Parts
 pub mod Picks

@@ -1,54 +1,26 @@
--- The numbers that the definitions name are the places in page 01's lists.
+-- The numbers that the definitions name are those of page 01's spellings, and each symbol has its own.
 use mathlib.Core.Path.{_≡_, refl}
-use mathlib.Core.Bool.{cond}
-use mathlib.Core.List.{List, [], _∷_, map}
-use Prim.Native.Nat.{ℕ}
-use Prim.Native.String.{String}
+use mathlib.Core.List.{[], _∷_, _++_, map}
+use Prim.Native.Nat.{suc, _+_}
 use lib.ListN.{length}
 use Rattle.lexer.specs.Bytes.{placeIn, ascii}
-use Rattle.lexer.specs.Punctuator.{punctuators}
 use Rattle.lexer.specs.Token.{literalWords}
-use Rattle.lexer.specs.declared.token.Token.the-variants.{Word, Punctuator}
-use Rattle.value.specs.Name.{functionNames}
-use Rattle.syntax.specs.Symbol.{question, colon, openRound, closeRound, openSquare, closeSquare, comma, dot, word, numberOf, isPrefix, precedenceOf}
+use Rattle.lexer.specs.declared.token.Token.the-variants.{Number, String, Word}
+use Rattle.tree.specs.Tree.{firstWordForm, forms}
+use Rattle.tree.specs.Slots.{questionTag, colonTag, operatorTag}
+use Rattle.syntax.specs.Symbol.{question, colon, firstIndex, lastIndex, otherNumber, string, firstWord, lastLiteral, word, end, none, numberOf, oneOfEach, countFrom}
 
--- "Operators: `? : || && === !== < <= > >= + - * / % !`, and `( ) [ ] , .`"
-abbrev pub signs : List String
-signs = "?" ∷ ":" ∷ "||" ∷ "&&" ∷ "===" ∷ "!==" ∷ "<" ∷ "<=" ∷ ">" ∷ ">=" ∷ "+" ∷ "-" ∷ "*" ∷ "/" ∷ "%" ∷ "!" ∷ "(" ∷ ")" ∷ "[" ∷ "]" ∷ "," ∷ "." ∷ []
+-- each symbol has its own number, in this order
+pub in-order : map numberOf oneOfEach ++ (end ∷ none ∷ []) ≡ countFrom 0 (suc none)
+in-order = refl
 
-pub all-signs : map ascii signs ≡ punctuators
-all-signs = refl
+-- and these have the names
+pub named : map numberOf (Number 0 0 ∷ Number 3 0 ∷ Number 4 0 ∷ String ∷ []) ≡ firstIndex ∷ lastIndex ∷ otherNumber ∷ string ∷ []
+named = refl
 
--- the symbol of a punctuator
-abbrev pub sign : String → ℕ
-sign s = numberOf (Punctuator (placeIn punctuators (ascii s)))
+pub named-words : map (λ s. numberOf (Word (placeIn literalWords (ascii s)))) ("true" ∷ "Infinity" ∷ "vec2" ∷ []) ≡ firstWord ∷ lastLiteral ∷ word ∷ []
+named-words = refl
 
-pub marks : map sign ("?" ∷ ":" ∷ "(" ∷ ")" ∷ "[" ∷ "]" ∷ "," ∷ "." ∷ []) ≡ question ∷ colon ∷ openRound ∷ closeRound ∷ openSquare ∷ closeSquare ∷ comma ∷ dot ∷ []
-marks = refl
-
--- the level of each, and 0 for what is no binary operator
-pub precedences : map (λ s. precedenceOf (sign s)) signs ≡ 0 ∷ 0 ∷ 6 ∷ 5 ∷ 4 ∷ 4 ∷ 3 ∷ 3 ∷ 3 ∷ 3 ∷ 2 ∷ 2 ∷ 1 ∷ 1 ∷ 1 ∷ 0 ∷ 0 ∷ 0 ∷ 0 ∷ 0 ∷ 0 ∷ 0 ∷ []
-unfolding precedenceOf
-precedences = refl
-
--- those that are unary operators too, or only
-abbrev pub unaries : List String → List String
-unaries [] = []
-unaries (s ∷ ss) = cond (isPrefix (record { number = sign s; at = 0; end = 0 })) (s ∷ unaries ss) (unaries ss)
-
-pub prefixes : unaries signs ≡ "+" ∷ "-" ∷ "!" ∷ []
-prefixes = refl
-
--- the symbol of a word
-abbrev named : String → ℕ
-named s = numberOf (Word (placeIn literalWords (ascii s)))
-
-pub word-numbers : map named ("true" ∷ "false" ∷ "null" ∷ "undefined" ∷ "NaN" ∷ "Infinity" ∷ "vec2" ∷ []) ≡ 28 ∷ 29 ∷ 30 ∷ 31 ∷ 32 ∷ 33 ∷ word ∷ []
-word-numbers = refl
-
--- the functions, and `color` among them
-pub functions : length functionNames ≡ 20
-functions = refl
-
-pub color : placeIn functionNames (ascii "color") ≡ 5
-color = refl
+-- the tree's tags of `?` and `:` are those of their numbers, and each literal word has a form
+pub tagged : (operatorTag question ≡ questionTag) × (operatorTag colon ≡ colonTag) × (firstWordForm + length literalWords ≡ forms)
+tagged = (refl, refl, refl)

@@ -14,6 +14,7 @@ use Rattle.lexer.specs.Scan.{scanOf}
 use Rattle.lexer.specs.declared.refusal.Refusal.{Refusal}
 use Rattle.lexer.proofs.Refusals.{With, scan-says}
 use Rattle.tree.specs.Tree.{Tree}
+use Rattle.syntax.specs.Sizes.{mostBytes, mostHeight}
 use Rattle.syntax.specs.Parser.{Result, part, refused, spent, parseOf}
 use Rattle.syntax.specs.Height.{heightOf}
 use Rattle.syntax.specs.Names.{unknownIn, leftmostOf}
@@ -32,7 +33,7 @@ module _ (text : List ℕ) where
   height-below false e = names-below (leftmostOf (unknownIn text e)) e
 
   grammar-below : (r : Result Symbol Tree) → numberOf (byGrammar r text) ≤ 6
-  grammar-below (part e x) = height-below (ltb 64 (heightOf e)) e
+  grammar-below (part e x) = height-below (ltb mostHeight (heightOf e)) e
   grammar-below (refused x) = omega arith
   grammar-below spent = omega arith
 
@@ -43,7 +44,7 @@ module _ (text : List ℕ) where
 
   below : numberOf (judgedOf text) ≤ 6
   unfolding judgedOf
-  below = go (ltb 1024 (length text))
+  below = go (ltb mostBytes (length text))
     where
       go : (b : Bool) → numberOf (bySize b text) ≤ 6
       go true = omega arith

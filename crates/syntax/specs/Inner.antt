@@ -8,12 +8,16 @@ use lib.ListN.{length}
 use Rattle.lexer.specs.Refusal as judged
 use Rattle.lexer.specs.Refusal.{refusalAt, Judged}
 use Rattle.tree.specs.Tree.{Tree}
-use Rattle.tree.specs.Slots.{Shape, root, lay, shapeOf, shapesOf, between, operatorTag, store}
+use Rattle.tree.specs.Slots.{Shape, root, lay, shapeOf, shapesOf, between, colonTag, store}
 use Rattle.tree.specs.Node.{argumentAt}
 use Rattle.tree.specs.declared.node.Argument.{Argument}
 use Rattle.tree.specs.declared.node.Argument.the-variants.{Last, Next}
-use Rattle.syntax.specs.Symbol.{dot, openSquare, closeSquare, closeRound, is, isWord, isIndex, indexOf, memberOf, symbolAt}
-use Rattle.syntax.specs.Parser.{Result, part, refused, Branches, branches, expressionFrom, branchesFrom, levelFrom, tailFrom, unaryFrom, postfixFrom, picksFrom, primaryFrom, callFrom, argumentsFrom, inText, parseOf}
+use Rattle.syntax.specs.Sizes.{mostHeight}
+use Rattle.syntax.specs.Symbol.{dot, openSquare, closeSquare, closeRound, variable, end}
+use Rattle.syntax.specs.Symbol.{is, isWord, isIndex, indexOf, memberOf, symbolAt}
+use Rattle.syntax.specs.Parser.{Result, part, refused, Branches, branches, inText, parseOf}
+use Rattle.syntax.specs.Parser.{expressionFrom, branchesFrom, levelFrom, tailFrom, unaryFrom, postfixFrom, picksFrom, primaryFrom}
+use Rattle.syntax.specs.Parser.{callFrom, argumentsFrom, stepsEach}
 use Rattle.syntax.specs.Height.{heightOf}
 use Rattle.syntax.specs.Names.{unknownIn, lesser, leftmostOf}
 use Rattle.syntax.specs.Judge.{rootOf, answerOf}
@@ -32,8 +36,8 @@ use Rattle.syntax.specs.declared.parse.Picking.the-variants as pick
 pub record Sound (text : List ℕ) (x : Symbol) : Type 0 where
   pub order : x .at ≤ x .end
   pub inside : x .end ≤ length text
-  pub moves : x .number < 36 → x .at < x .end
-  pub long : x .number ≡ 35 → x .at + 1 < x .end
+  pub moves : x .number < end → x .at < x .end
+  pub long : x .number ≡ variable → x .at + 1 < x .end
 
 -- y is the symbol that follows x
 pub record Follows (text : List ℕ) (x y : Symbol) : Type 0 where
@@ -65,7 +69,8 @@ Ahead text lo (parsed.Tree at next) = (lo ≤ at) × (at < next .at) × Sound te
 Ahead text lo (parsed.Bad y) = Unit {0}
 
 -- r, with the slots v after w, is what the definition gives with steps enough
-pub record ParsedBy {A : Type 0} (shape : A → Shape) (spec : ℕ → Result Symbol A) (fuel : ℕ) (text w v : List ℕ) (lo : ℕ) (r : Parsed) : Type 0 where
+pub record ParsedBy
+    {A : Type 0} (shape : A → Shape) (spec : ℕ → Result Symbol A) (fuel : ℕ) (text w v : List ℕ) (lo : ℕ) (r : Parsed) : Type 0 where
   pub ahead : Ahead text lo r
   pub says : (f : ℕ) → fuel ≤ f → Agrees shape w v r (spec f)
 
@@ -77,10 +82,10 @@ pub record TailedBy (spec : ℕ → Tree → Result Symbol Tree) (fuel : ℕ) (t
 -- ---- each level, and the steps that it takes
 
 abbrev pub steps : ℕ → List ℕ → Symbol → ℕ
-steps c text x = (length text - x .at) * 32 + c
+steps c text x = (length text - x .at) * stepsEach + c
 
 abbrev pub branchesShape : Branches → Shape
-branchesShape (branches q a b) = between q (operatorTag 1) (shapeOf a) (shapeOf b)
+branchesShape (branches q a b) = between q colonTag (shapeOf a) (shapeOf b)
 
 abbrev pub ExpressionBy : List ℕ → List ℕ → List ℕ → Symbol → Parsed → Type 0
 ExpressionBy text w v x r = ParsedBy shapeOf (λ f. expressionFrom text (inText text) f x) (steps 12 text x) text w v (x .at) r
@@ -160,7 +165,8 @@ namesJudged (At p) root = judged.refused (refusalAt 6 p)
 namesJudged Nothing root = judged.fine root
 
 abbrev pub treeJudged : List ℕ → ℕ → Tree → Judged ℕ
-treeJudged text root e = cond (leb (heightOf e) 64) (namesJudged (leftmostOf (unknownIn text e)) root) (judged.refused (refusalAt 5 0))
+treeJudged text root e =
+    cond (leb (heightOf e) mostHeight) (namesJudged (leftmostOf (unknownIn text e)) root) (judged.refused (refusalAt 5 0))
 
 abbrev pub Kept : Judged Tree → List ℕ → List ℕ → Type 0
 Kept (judged.fine e) w v = v ≡ store w e

@@ -8,6 +8,7 @@ use Rattle.lexer.specs.Refusal.{refusalAt, Judged, refused, fine, onFine}
 use Rattle.lexer.specs.Scan.{scanOf}
 use Rattle.tree.specs.Tree.{Tree, place}
 use Rattle.tree.specs.Slots.{store}
+use Rattle.syntax.specs.Sizes.{mostBytes, mostHeight}
 use Rattle.syntax.specs.Parser.{Result, part, spent, parseOf}
 use Rattle.syntax.specs.Parser as parser
 use Rattle.syntax.specs.Height.{heightOf}
@@ -30,7 +31,7 @@ byHeight false text e = byNames (leftmostOf (unknownIn text e)) e
 
 -- grammar; the steps never run out (`never-spent` in proofs/Grammar/Text.antt), so the last line is there for the definition's sake
 abbrev pub byGrammar : Result Symbol Tree → List ℕ → Judged Tree
-byGrammar (part e x) text = byHeight (ltb 64 (heightOf e)) text e
+byGrammar (part e x) text = byHeight (ltb mostHeight (heightOf e)) text e
 byGrammar (parser.refused x) text = refused (refusalAt 4 (x .at))
 byGrammar spent text = refused (refusalAt 4 0)
 
@@ -40,13 +41,13 @@ byTokens v text = onFine v (λ _. byGrammar (parseOf text) text)
 
 -- "expression 1,024 bytes"
 abbrev pub bySize : Bool → List ℕ → Judged Tree
-bySize true text = refused (refusalAt 1 1024)
+bySize true text = refused (refusalAt 1 mostBytes)
 bySize false text = byTokens (scanOf text) text
 
 -- an expression's tree, or its refusal
 unfoldable pub judgedOf : List ℕ → Judged Tree
 unfolding scanOf parseOf heightOf unknownIn
-judgedOf text = bySize (ltb 1024 (length text)) text
+judgedOf text = bySize (ltb mostBytes (length text)) text
 
 -- ---- what the call answers, and what it leaves in the slots
 

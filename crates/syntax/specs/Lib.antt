@@ -1,6 +1,8 @@
+pub mod Sizes
 pub mod Symbol
 pub mod Grammar
 pub mod Place
+pub mod Anchored
 pub mod Parser
 pub mod Height
 pub mod Names

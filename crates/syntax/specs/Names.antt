@@ -3,18 +3,21 @@ use mathlib.Core.Bool.{cond}
 use mathlib.Core.List.{List, [], _∷_, _++_}
 use Prim.Native.Nat.{ℕ}
 use lib.Dec.{eqb, ltb}
+use lib.ListN.{length}
+use Rattle.lexer.specs.Bytes.{placeIn, ascii}
 use Rattle.lexer.specs.Token.{stringMeaning}
 use Rattle.colour.specs.Text.{colourOf}
 use Rattle.colour.specs.declared.text.Named.{Named}
 use Rattle.colour.specs.declared.text.Named.the-variants.{Known, Unknown}
-use Rattle.tree.specs.Tree.{Tree, literal, variable, unary, binary, conditional, bare, call, pick, Arguments, last, next}
-use Rattle.syntax.specs.Symbol.{symbolAt}
+use Rattle.value.specs.Name.{functionNames}
+use Rattle.tree.specs.Tree.{stringForm, Tree, literal, variable, unary, binary, conditional, bare, call, pick, Arguments, last, next}
+use Rattle.syntax.specs.Symbol.{symbolAt, indices}
 use Rattle.syntax.specs.declared.names.Leftmost.{Leftmost}
 use Rattle.syntax.specs.declared.names.Leftmost.the-variants.{At, Nothing}
 
--- functions have the numbers 0 to 19, and `color` is 5
+-- a call at p of the function f, whose number is its place among the names
 abbrev pub unknownFunction : ℕ → ℕ → List ℕ
-unknownFunction p f = cond (ltb f 20) [] (p ∷ [])
+unknownFunction p f = cond (ltb f (length functionNames)) [] (p ∷ [])
 
 abbrev pub unlessNamed : Named → ℕ → List ℕ
 unlessNamed (Known c) p = []
@@ -24,9 +27,9 @@ unlessNamed Unknown p = p ∷ []
 abbrev pub stringAt : List ℕ → ℕ → List ℕ
 stringAt text q = stringMeaning text (symbolAt text q .at) (symbolAt text q .end)
 
--- the first argument of a `color` at p: a string literal, 1, is unknown at its own place, and anything else is placed at the word
+-- the first argument of a `color` at p: a string literal is unknown at its own place, and anything else is placed at the word
 abbrev pub unknownLiteral : List ℕ → ℕ → ℕ → ℕ → List ℕ
-unknownLiteral text p q form = cond (eqb form 1) (unlessNamed (colourOf (stringAt text q)) q) (p ∷ [])
+unknownLiteral text p q form = cond (eqb form stringForm) (unlessNamed (colourOf (stringAt text q)) q) (p ∷ [])
 
 abbrev pub unknownColour : List ℕ → ℕ → Tree → List ℕ
 unknownColour text p (literal q k) = unknownLiteral text p q k
@@ -42,13 +45,16 @@ abbrev pub first : Arguments → Tree
 first (last e) = e
 first (next e q xs) = e
 
--- a call at p of the function f
-abbrev pub unknownCall : List ℕ → ℕ → ℕ → Tree → List ℕ
-unknownCall text p f e = cond (eqb f 5) (unknownColour text p e) (unknownFunction p f)
+abbrev pub color : ℕ
+color = placeIn functionNames (ascii "color")
 
--- components have the indices 0 to 3; an unknown member is placed at its word, which follows the dot
+-- a call at p of the function f, with its first argument
+abbrev pub unknownCall : List ℕ → ℕ → ℕ → Tree → List ℕ
+unknownCall text p f e = cond (eqb f color) (unknownColour text p e) (unknownFunction p f)
+
+-- an unknown member is placed at its word, which follows the dot
 abbrev pub unknownMember : List ℕ → ℕ → ℕ → List ℕ
-unknownMember text p i = cond (ltb i 4) [] (symbolAt text (symbolAt text p .end) .at ∷ [])
+unknownMember text p i = cond (ltb i indices) [] (symbolAt text (symbolAt text p .end) .at ∷ [])
 
 -- the places of all unknown names
 unfoldable mutual

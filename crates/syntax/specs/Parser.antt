@@ -8,7 +8,9 @@ use Prim.Native.Nat.{ℕ, zero, suc, _+_, _*_}
 use lib.ListN.{length}
 use Rattle.tree.specs.Tree.{Tree, literal, unary, binary, conditional, bare, call, pick, Arguments, last, next}
 use Rattle.tree.specs.Tree as tree
-use Rattle.syntax.specs.Symbol.{question, colon, openRound, closeRound, openSquare, closeSquare, comma, dot, word, end, symbolAt, is, isLiteral, formOf, isIndex, indexOf, isWord, isPrefix, precedenceOf, levels, hasPrecedence, functionOf, memberOf}
+use Rattle.syntax.specs.Symbol.{question, colon, openRound, closeRound, openSquare, closeSquare, comma, dot, word, end, symbolAt}
+use Rattle.syntax.specs.Symbol.{is, isLiteral, formOf, isIndex, indexOf, isWord, isPrefix, precedenceOf, levels, hasPrecedence}
+use Rattle.syntax.specs.Symbol.{functionOf, memberOf}
 use Rattle.syntax.specs.Symbol as symbol
 use Rattle.syntax.specs.declared.symbol.Symbol.{Symbol}
 
@@ -74,11 +76,16 @@ module _ (text : List ℕ) {S : Type 0} (following : S → Option (Symbol × S))
     -- "a conditional nests to its right and its middle is a whole expression"
     pub expressionFrom : ℕ → S → Result S Tree
     expressionFrom zero = nothing
-    expressionFrom (suc f) = andThen (levelFrom f levels) (λ c. ask following (is question) (λ x. andThen (branchesFrom f) (λ b. part (chosen (x .at) c b))) (part c))
+    expressionFrom (suc f) =
+        andThen (levelFrom f levels) (λ c.
+        ask following (is question) (λ x. andThen (branchesFrom f) (λ b. part (chosen (x .at) c b)))
+        (part c))
 
     pub branchesFrom : ℕ → S → Result S Branches
     branchesFrom zero = nothing
-    branchesFrom (suc f) = andThen (expressionFrom f) (λ a. expect following (is colon) (λ x. andThen (expressionFrom f) (λ b. part (branches (x .at) a b))))
+    branchesFrom (suc f) =
+        andThen (expressionFrom f) (λ a.
+        expect following (is colon) (λ x. andThen (expressionFrom f) (λ b. part (branches (x .at) a b))))
 
     -- binary operators of the levels 1 to k: "Binary operators group to the left"
     pub levelFrom : ℕ → ℕ → S → Result S Tree
@@ -89,7 +96,9 @@ module _ (text : List ℕ) {S : Type 0} (following : S → Option (Symbol × S))
     -- the operators of the level k + 1 that follow an operand
     pub tailFrom : ℕ → ℕ → Tree → S → Result S Tree
     tailFrom zero k e = nothing
-    tailFrom (suc f) k e = ask following (hasPrecedence (suc k)) (λ x. andThen (levelFrom f k) (λ d. tailFrom f k (binary (x .at) (x .number) e d))) (part e)
+    tailFrom (suc f) k e =
+        ask following (hasPrecedence (suc k)) (λ x. andThen (levelFrom f k) (λ d. tailFrom f k (binary (x .at) (x .number) e d)))
+        (part e)
 
     pub unaryFrom : ℕ → S → Result S Tree
     unaryFrom zero = nothing
@@ -104,7 +113,8 @@ module _ (text : List ℕ) {S : Type 0} (following : S → Option (Symbol × S))
     picksFrom zero e = nothing
     picksFrom (suc f) e =
         ask following (is dot) (λ x. expect following isWord (λ y. picksFrom f (pick (x .at) (memberOf text y) e)))
-        (ask following (is openSquare) (λ x. expect following isIndex (λ y. expect following (is closeSquare) (λ z. picksFrom f (pick (x .at) (indexOf y) e))))
+        (ask following (is openSquare) (λ x.
+        expect following isIndex (λ y. expect following (is closeSquare) (λ z. picksFrom f (pick (x .at) (indexOf y) e))))
         (part e))
 
     -- "A primary is a number, string, variable, `true`, `false`, `null`, `undefined`, `NaN`, `Infinity`, a call, or brackets: a bracketed
@@ -127,7 +137,10 @@ module _ (text : List ℕ) {S : Type 0} (following : S → Option (Symbol × S))
 
     pub argumentsFrom : ℕ → S → Result S Arguments
     argumentsFrom zero = nothing
-    argumentsFrom (suc f) = andThen (expressionFrom f) (λ e. ask following (is comma) (λ x. andThen (argumentsFrom f) (λ xs. part (next e (x .at) xs))) (part (last e)))
+    argumentsFrom (suc f) =
+        andThen (expressionFrom f) (λ e.
+        ask following (is comma) (λ x. andThen (argumentsFrom f) (λ xs. part (next e (x .at) xs)))
+        (part (last e)))
 
   abbrev pub wholeFrom : ℕ → S → Result S Tree
   wholeFrom f = andThen (expressionFrom f) (atEnd following)
@@ -142,11 +155,15 @@ followed false text x = some (x, symbolAt text (x .end))
 abbrev pub inText : List ℕ → Symbol → Option (Symbol × Symbol)
 inText text x = followed (is end x) text x
 
--- a symbol takes a step at each level at most, and a byte at least
+-- more than a symbol takes, which is a step at each level at most
+abbrev pub stepsEach : ℕ
+stepsEach = 32
+
+-- a symbol has a byte at least
 abbrev pub stepsFor : List ℕ → ℕ
-stepsFor text = length text * 32 + 32
+stepsFor text = length text * stepsEach + stepsEach
 
 -- The tree of a text, or the symbol at which it is refused with 4.
 unfoldable pub parseOf : List ℕ → Result Symbol Tree
-unfolding symbolAt precedenceOf andThen ask atEnd expressionFrom
+unfolding symbolAt isPrefix precedenceOf andThen ask atEnd expressionFrom
 parseOf text = wholeFrom text (inText text) (stepsFor text) (symbolAt text 0)

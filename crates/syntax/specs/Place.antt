@@ -1,4 +1,4 @@
--- The place of a refusal 4: page 01, "Refusal numbers": "the first token no right expression can have there, or the end".
+-- The place of a refusal 4: page 01, "Refusal numbers": "first token no right expression can have there, or the end".
 use mathlib.Core.Path.{_≡_}
 use mathlib.Core.List.{List, [], _∷_, _++_, map}
 use Prim.Native.Nat.{ℕ, _≤_}
@@ -7,6 +7,7 @@ use Rattle.lexer.specs.Tokens.{Placed, placed, tokenOf, tokens, tokensOf}
 use Rattle.lexer.specs.Refusal as judged
 use Rattle.lexer.specs.Scan.{scanOf}
 use Rattle.tree.specs.Tree.{Tree}
+use Rattle.syntax.specs.Sizes.{mostBytes}
 use Rattle.syntax.specs.Symbol.{numberOf, seen}
 use Rattle.syntax.specs.Grammar.{expression, Derives}
 use Rattle.syntax.specs.declared.symbol.Symbol.{Symbol}
@@ -43,7 +44,7 @@ module _ (text : List ℕ) where
     pub begins : Begins taken
     pub never : Never taken rest
 
-  -- "the first token" of the rest, "or the end"
+  -- the "first token" of the rest, "or the end"
   abbrev pub placeOf : List Placed → ℕ
   placeOf [] = length text
   placeOf (placed t at until ∷ ts) = at
@@ -53,7 +54,7 @@ module _ (text : List ℕ) where
 
   -- The checks before the grammar's are passed, 1 by the size and 2 and 3 by the scan, and these are the tokens.
   pub record Scanned (ts : List Placed) : Type 0 where
-    pub short : length text ≤ 1024
+    pub short : length text ≤ mostBytes
     pub fine : scanOf text ≡ judged.fine tt
     pub lexed : tokensOf text ≡ tokens ts
 

@@ -1,14 +1,14 @@
--- What the grammar sees of a token: page 01, "Tokens and grammar". A symbol has a number, the place of its token and its end. Punctuators
--- have their own numbers (`?` is 0, `.` is 21); then come the indices `0` to `3`, any other number, a string, the literal words, any other
--- word, and a variable. Behind the last token stands the symbol 36, where the text ends.
-use mathlib.Core.Bool.{Bool, cond, _&&_, _||_}
-use mathlib.Core.List.{List}
-use Prim.Native.Nat.{ℕ, _+_, _-_}
+-- What the grammar sees of a token: page 01, "Tokens and grammar". A symbol has a number, the place of its token and its end.
+use mathlib.Core.Bool.{Bool, cond, _&&_}
+use mathlib.Core.List.{List, [], _∷_, _++_, map}
+use Prim.Native.Nat.{ℕ, zero, suc, _+_, _-_}
 use lib.Dec.{eqb, ltb, leb}
-use lib.ListN.{length}
+use lib.ListN.{length, getD}
 use lib.Seq.{slice}
-use Rattle.lexer.specs.Bytes.{placeIn}
-use Rattle.lexer.specs.Token.{lexemeAt}
+use Rattle.lexer.specs.Bytes.{placeIn, ascii}
+use Rattle.lexer.specs.Punctuator.{punctuators}
+pub use Rattle.lexer.specs.Punctuator.{question, colon, openRound, closeRound, openSquare, closeSquare, comma, dot}
+use Rattle.lexer.specs.Token.{literalWords, lexemeAt}
 use Rattle.lexer.specs.declared.token.Token.{Token}
 use Rattle.lexer.specs.declared.token.Token.the-variants.{Number, String, Variable, Word, Punctuator}
 use Rattle.lexer.specs.declared.token.Lexeme.{Lexeme}
@@ -16,31 +16,27 @@ use Rattle.lexer.specs.declared.token.Lexeme.the-variants.{Found, Bad, End}
 use Rattle.value.specs.Name.{functionNames, memberIndex}
 use Rattle.syntax.specs.declared.symbol.Symbol.{Symbol}
 
--- ---- the symbols of a text
+-- ---- the numbers
 
-abbrev pub question : ℕ
-question = 0
+-- Punctuators have their own, the places in page 01's list. Then come the indices `0` to `3`, any other number, a string, the literal
+-- words, any other word, and a variable; and last the end of the text: `in-order` in proofs/Numbers.antt.
+abbrev pub firstIndex : ℕ
+firstIndex = 22
 
-abbrev pub colon : ℕ
-colon = 1
+abbrev pub lastIndex : ℕ
+lastIndex = 25
 
-abbrev pub openRound : ℕ
-openRound = 16
+abbrev pub otherNumber : ℕ
+otherNumber = 26
 
-abbrev pub closeRound : ℕ
-closeRound = 17
+abbrev pub string : ℕ
+string = 27
 
-abbrev pub openSquare : ℕ
-openSquare = 18
+abbrev pub firstWord : ℕ
+firstWord = 28
 
-abbrev pub closeSquare : ℕ
-closeSquare = 19
-
-abbrev pub comma : ℕ
-comma = 20
-
-abbrev pub dot : ℕ
-dot = 21
+abbrev pub lastLiteral : ℕ
+lastLiteral = 33
 
 abbrev pub word : ℕ
 word = 34
@@ -55,14 +51,19 @@ end = 36
 abbrev pub none : ℕ
 none = 37
 
--- "`[0]` to `[3]`, the index one digit": such a number has no digit after the point, and is below 4. Literal words have the numbers 28 to
--- 33, in the lexer's order.
+-- ---- the symbols of a text
+
+-- "`[0]` to `[3]`"
+abbrev pub indices : ℕ
+indices = 4
+
+-- "the index one digit": such a number has no digit after the point
 abbrev pub numberOf : Token → ℕ
-numberOf (Number digits places) = cond (eqb places 0 && ltb digits 4) (22 + digits) 26
-numberOf String = 27
-numberOf (Word k) = cond (ltb k 6) (28 + k) word
+numberOf (Number digits places) = cond (eqb places 0 && ltb digits indices) (firstIndex + digits) otherNumber
+numberOf String = string
+numberOf (Word k) = cond (ltb k (length literalWords)) (firstWord + k) word
 numberOf Variable = variable
-numberOf (Punctuator k) = cond (ltb k 22) k none
+numberOf (Punctuator k) = cond (ltb k (length punctuators)) k none
 
 -- what the grammar sees of a token with its place and its end
 abbrev pub seen : Token → ℕ → ℕ → Symbol
@@ -78,46 +79,82 @@ unfoldable pub symbolAt : List ℕ → ℕ → Symbol
 unfolding lexemeAt
 symbolAt text from = symbolOf text (lexemeAt text from)
 
+-- ---- each symbol once, for `in-order`
+
+-- a token for each symbol: page 01's punctuators, numbers, a string, page 01's literal words, another word, a variable
+abbrev pub oneOfEach : List Token
+oneOfEach =
+    map (λ s. Punctuator (placeIn punctuators s)) punctuators
+    ++ (Number 0 0 ∷ Number 1 0 ∷ Number 2 0 ∷ Number 3 0 ∷ Number 4 0 ∷ String ∷ [])
+    ++ map (λ s. Word (placeIn literalWords s)) literalWords
+    ++ (Word (placeIn literalWords (ascii "vec2")) ∷ Variable ∷ [])
+
+-- the numbers from one on, so many
+abbrev pub countFrom : ℕ → ℕ → List ℕ
+countFrom n zero = []
+countFrom n (suc k) = n ∷ countFrom (suc n) k
+
 -- ---- tests
 
 abbrev pub is : ℕ → Symbol → Bool
 is n x = eqb (x .number) n
 
--- a number, a string or a literal word; and which of these it is: 0 a number, 1 a string, from 2 on the words
+-- a number, a string or a literal word
 abbrev pub isLiteral : Symbol → Bool
-isLiteral x = leb 22 (x .number) && leb (x .number) 33
+isLiteral x = leb firstIndex (x .number) && leb (x .number) lastLiteral
 
+-- and which of these it is: any index is a number
 abbrev pub formOf : Symbol → ℕ
-formOf x = x .number - 26
+formOf x = x .number - otherNumber
 
 abbrev pub isIndex : Symbol → Bool
-isIndex x = leb 22 (x .number) && leb (x .number) 25
+isIndex x = leb firstIndex (x .number) && leb (x .number) lastIndex
 
 abbrev pub indexOf : Symbol → ℕ
-indexOf x = x .number - 22
+indexOf x = x .number - firstIndex
 
 -- after a dot a literal word is a word like any other
 abbrev pub isWord : Symbol → Bool
-isWord x = leb 28 (x .number) && leb (x .number) word
+isWord x = leb firstWord (x .number) && leb (x .number) word
 
--- `+`, `-` and `!`
-abbrev pub isPrefix : Symbol → Bool
-isPrefix x = (eqb (x .number) 10 || eqb (x .number) 11) || eqb (x .number) 15
+-- ---- operators
 
--- "Precedence, lowest first: `? :`, `||`, `&&`, equality, order, `+ -`, `* / %`": the levels of binary operators, from the one that binds
--- most, and 0 for what is none
-unfoldable pub precedenceOf : ℕ → ℕ
-precedenceOf n =
-    cond (leb 12 n && leb n 14) 1
-    (cond (leb 10 n && leb n 11) 2
-    (cond (leb 6 n && leb n 9) 3
-    (cond (leb 4 n && leb n 5) 4
-    (cond (eqb n 3) 5
-    (cond (eqb n 2) 6 0)))))
+-- the spelling of a punctuator; of any other symbol nothing
+abbrev pub spelling : ℕ → List ℕ
+spelling n = getD punctuators n []
+
+abbrev pub isAmong : List (List ℕ) → List ℕ → Bool
+isAmong ss s = ltb (placeIn ss s) (length ss)
+
+-- "unary `+ - !`"
+abbrev pub prefixes : List (List ℕ)
+prefixes = ascii "+" ∷ ascii "-" ∷ ascii "!" ∷ []
+
+unfoldable pub isPrefix : Symbol → Bool
+isPrefix x = isAmong prefixes (spelling (x .number))
+
+-- "Precedence, lowest first: `? :`, `||`, `&&`, equality, order, `+ -`, `* / %`": the binary operators, from the level that binds most
+abbrev pub operators : List (List (List ℕ))
+operators =
+    (ascii "*" ∷ ascii "/" ∷ ascii "%" ∷ [])
+    ∷ (ascii "+" ∷ ascii "-" ∷ [])
+    ∷ (ascii "<" ∷ ascii "<=" ∷ ascii ">" ∷ ascii ">=" ∷ [])
+    ∷ (ascii "===" ∷ ascii "!==" ∷ [])
+    ∷ (ascii "&&" ∷ [])
+    ∷ (ascii "||" ∷ [])
+    ∷ []
 
 -- how many levels there are
 abbrev pub levels : ℕ
-levels = 6
+levels = length operators
+
+-- the level of a spelling, where the first of these is the level k; 0 for what is no binary operator
+abbrev pub levelIn : ℕ → List (List (List ℕ)) → List ℕ → ℕ
+levelIn k [] s = 0
+levelIn k (l ∷ ls) s = cond (isAmong l s) k (levelIn (suc k) ls s)
+
+unfoldable pub precedenceOf : ℕ → ℕ
+precedenceOf n = levelIn 1 operators (spelling n)
 
 abbrev pub hasPrecedence : ℕ → Symbol → Bool
 hasPrecedence k x = eqb (precedenceOf (x .number)) k

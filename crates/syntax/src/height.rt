@@ -46,7 +46,8 @@ pub fn is_within(slots: &[u16], at: usize, allowance: usize) -> bool
 
 // The same for the arguments at a place, with some commas at most.
 fn are_within(slots: &[u16], at: usize, allowance: usize, commas: usize) -> bool
-    ensures { λ r. ⌜ r ≡ leb (heightOfAll (argumentsAt (treeAt allowance (now (slots .entry))) commas (now (slots .entry)) at)) allowance ⌝ }
+    ensures { λ r. ⌜ r ≡ leb
+        (heightOfAll (argumentsAt (treeAt allowance (now (slots .entry))) commas (now (slots .entry)) at)) allowance ⌝ }
 {
     if commas == 0 {
         return is_within(slots, at, allowance);

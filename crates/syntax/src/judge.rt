@@ -3,6 +3,7 @@ ghost use mathlib.Core.Path.{_≡_};
 ghost use Prim.Native.Nat.{_≤_};
 ghost use lib.ListN.{length};
 ghost use Rattle.tree.specs.Node.{treeAt};
+ghost use Rattle.syntax.specs.Sizes.{mostBytes, mostHeight};
 ghost use Rattle.syntax.specs.Parser.{parseOf};
 ghost use Rattle.syntax.specs.Judge.{byGrammar, judgedOf, rootOf, judgementOf, answerOf, kept, slotsAfter};
 ghost use Rattle.syntax.specs.Inner.{treeJudged, JudgedBy};
@@ -28,7 +29,7 @@ pub const MOST_HEIGHT: usize = 64;
 
 // 5 and 6, over the tree at a place.
 fn tree_judgement(text: &[u8], slots: &[u16], root: usize) -> Judgement
-    ensures { λ r. ⌜ answerOf r ≡ treeJudged (now (text .entry)) root (treeAt 64 (now (slots .entry)) root) ⌝ }
+    ensures { λ r. ⌜ answerOf r ≡ treeJudged (now (text .entry)) root (treeAt mostHeight (now (slots .entry)) root) ⌝ }
 {
     if !is_within(slots, root, MOST_HEIGHT) {
         return Judgement::Refused(Refusal {
@@ -44,7 +45,7 @@ fn tree_judgement(text: &[u8], slots: &[u16], root: usize) -> Judgement
 
 // From 4 on.
 fn grammar_judgement(text: &[u8], slots: &mut [u16]) -> Judgement
-    requires { ⌜ (length (now text) ≤ 1024) × (length (now slots) ≡ length (now text)) ⌝ }
+    requires { ⌜ (length (now text) ≤ mostBytes) × (length (now slots) ≡ length (now text)) ⌝ }
     ensures { λ r. ⌜ JudgedBy (byGrammar (parseOf (now (text .entry))) (now (text .entry))) (now (slots .entry)) (now (slots .exit)) r ⌝ }
 {
     match parse(text, slots) {
@@ -76,7 +77,8 @@ fn size_judgement(text: &[u8], slots: &mut [u16]) -> Judgement
 // The slots beside the text, which hold its tree or nothing.
 fn own_judgement(text: &[u8], slots: &mut [u16]) -> Judgement
     requires { ⌜ length (now slots) ≡ length (now text) ⌝ }
-    ensures { λ r. ⌜ (answerOf r ≡ rootOf (judgedOf (now (text .entry)))) × (now (slots .exit) ≡ kept (judgedOf (now (text .entry))) (now (slots .entry))) ⌝ }
+    ensures { λ r. ⌜ (answerOf r ≡ rootOf (judgedOf (now (text .entry))))
+        × (now (slots .exit) ≡ kept (judgedOf (now (text .entry))) (now (slots .entry))) ⌝ }
 {
     match size_judgement(text, slots) {
         Judgement::Fine { root } => Judgement::Fine { root },
@@ -89,7 +91,8 @@ fn own_judgement(text: &[u8], slots: &mut [u16]) -> Judgement
 
 // Judges an expression, and lays its tree into the first slots, one for each of its bytes.
 pub fn judge(text: &[u8], slots: &mut [u16]) -> Judgement
-    ensures { λ r. ⌜ (answerOf r ≡ judgementOf (length (now (slots .entry))) (now (text .entry))) × (now (slots .exit) ≡ slotsAfter (now (slots .entry)) (now (text .entry))) ⌝ }
+    ensures { λ r. ⌜ (answerOf r ≡ judgementOf (length (now (slots .entry))) (now (text .entry)))
+        × (now (slots .exit) ≡ slotsAfter (now (slots .entry)) (now (text .entry))) ⌝ }
 {
     let n = text.len();
     if slots.len() < n {

@@ -2,7 +2,8 @@
 ghost use mathlib.Core.Path.{_≡_};
 ghost use Rattle.colour.specs.Text.{colourOf};
 ghost use Rattle.tree.specs.Node.{treeAt, argumentsAt, mostCommas};
-ghost use Rattle.syntax.specs.Names.{unknownFunction, unknownLiteral, unknownColour, unknownCall, unknownMember, unknownIn, unknownInAll, stringAt, first, leftmostOf};
+ghost use Rattle.syntax.specs.Names.{unknownFunction, unknownLiteral, unknownColour, unknownCall, unknownMember};
+ghost use Rattle.syntax.specs.Names.{unknownIn, unknownInAll, stringAt, first, leftmostOf};
 ghost use Rattle.syntax.specs.Inner.{earlierOf, firstAt};
 use crate::symbol::symbol_at;
 use colour::colour::Colour;
@@ -132,7 +133,8 @@ fn unknown_call(
     arguments: usize,
     allowance: usize,
 ) -> Leftmost
-    ensures { λ r. ⌜ r ≡ leftmostOf (unknownCall (now (text .entry)) at function (first (argumentsAt (treeAt allowance (now (slots .entry))) mostCommas (now (slots .entry)) arguments))) ⌝ }
+    ensures { λ r. ⌜ r ≡ leftmostOf (unknownCall (now (text .entry)) at function
+        (first (argumentsAt (treeAt allowance (now (slots .entry))) mostCommas (now (slots .entry)) arguments))) ⌝ }
 {
     if function == COLOR {
         unknown_colour(text, slots, at, first_of(slots, arguments), allowance)
@@ -190,7 +192,8 @@ pub fn unknown(text: &[u8], slots: &[u16], at: usize, allowance: usize) -> Leftm
 
 // The same for the arguments at a place, with some commas at most.
 fn unknown_among(text: &[u8], slots: &[u16], at: usize, allowance: usize, commas: usize) -> Leftmost
-    ensures { λ r. ⌜ r ≡ leftmostOf (unknownInAll (now (text .entry)) (argumentsAt (treeAt allowance (now (slots .entry))) commas (now (slots .entry)) at)) ⌝ }
+    ensures { λ r. ⌜ r ≡ leftmostOf (unknownInAll (now (text .entry))
+        (argumentsAt (treeAt allowance (now (slots .entry))) commas (now (slots .entry)) at)) ⌝ }
 {
     if commas == 0 {
         return unknown(text, slots, at, allowance);

@@ -1,7 +1,11 @@
-// The levels of the grammar, which call each other in a cycle while the text left to read falls. Each writes the tree that it reads into the slots.
+// The levels of the grammar, which call each other in a cycle while the text left to read falls. Each writes the tree that it reads into
+// the slots.
 ghost use mathlib.Core.Path.{_≡_};
 ghost use Prim.Native.Nat.{_≤_, _<_};
-ghost use Rattle.syntax.specs.Inner.{Sound, Goes, closedOf, memberPickOf, indexPickOf, pickingOf, ExpressionBy, BranchesBy, LevelBy, TailBy, UnaryBy, PostfixBy, PicksBy, PrimaryBy, CallBy, ArgumentsBy, WholeBy};
+ghost use Rattle.syntax.specs.Symbol.{levels, word};
+ghost use Rattle.syntax.specs.Inner.{Sound, Goes, closedOf, memberPickOf, indexPickOf, pickingOf};
+ghost use Rattle.syntax.specs.Inner.{ExpressionBy, BranchesBy, LevelBy, TailBy, UnaryBy, PostfixBy, PicksBy, PrimaryBy, CallBy};
+ghost use Rattle.syntax.specs.Inner.{ArgumentsBy, WholeBy};
 use crate::symbol::END;
 use crate::symbol::Symbol;
 use crate::symbol::VARIABLE;
@@ -100,7 +104,7 @@ fn branches(text: &[u8], slots: &mut [u16], x: Symbol) -> Parsed
 
 // Binary operators of the first k levels; with none of them, a unary expression.
 fn level(text: &[u8], slots: &mut [u16], k: usize, x: Symbol) -> Parsed
-    requires { ⌜ Sound (now text) x × (k ≤ 6) ⌝ }
+    requires { ⌜ Sound (now text) x × (k ≤ levels) ⌝ }
     ensures { λ r. ⌜ LevelBy k (now (text .entry)) (now (slots .entry)) (now (slots .exit)) x r ⌝ }
 {
     if k == 0 {
@@ -114,7 +118,7 @@ fn level(text: &[u8], slots: &mut [u16], k: usize, x: Symbol) -> Parsed
 
 // What follows an operand of the level k + 1, whose tree has its root at a place.
 fn tail(text: &[u8], slots: &mut [u16], k: usize, root: usize, x: Symbol) -> Parsed
-    requires { ⌜ Goes (now text) root x × (k < 6) ⌝ }
+    requires { ⌜ Goes (now text) root x × (k < levels) ⌝ }
     ensures { λ r. ⌜ TailBy k (now (text .entry)) (now (slots .entry)) (now (slots .exit)) root x r ⌝ }
 {
     if precedence(x.number) as usize != k + 1 {
@@ -267,7 +271,7 @@ fn primary(text: &[u8], slots: &mut [u16], x: Symbol) -> Parsed
 
 // The call of a word.
 fn call(text: &[u8], slots: &mut [u16], x: Symbol) -> Parsed
-    requires { ⌜ Sound (now text) x × (x .number ≡ 34) ⌝ }
+    requires { ⌜ Sound (now text) x × (x .number ≡ word) ⌝ }
     ensures { λ r. ⌜ CallBy (now (text .entry)) (now (slots .entry)) (now (slots .exit)) x r ⌝ }
 {
     let y = after(text, x);

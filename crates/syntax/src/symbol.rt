@@ -1,9 +1,8 @@
 // Tokens as the grammar sees them.
 ghost use mathlib.Core.Path.{_≡_};
-ghost use mathlib.Core.Bool.{cond, _&&_};
-ghost use Prim.Native.Nat.{_+_};
-ghost use lib.Dec.{eqb, ltb};
-ghost use Rattle.syntax.specs.Symbol.{numberOf, symbolAt, isLiteral, formOf, isIndex, indexOf, isWord, isPrefix, precedenceOf, functionOf, memberOf};
+ghost use Rattle.lexer.specs.declared.token.Token.the-variants.{Number, Word, Punctuator};
+ghost use Rattle.syntax.specs.Symbol.{numberOf, symbolAt, isLiteral, formOf, isIndex, indexOf, isWord, isPrefix, precedenceOf};
+ghost use Rattle.syntax.specs.Symbol.{functionOf, memberOf};
 ghost use Rattle.syntax.specs.Inner.{Sound, Follows};
 use lexer::punctuator::MINUS;
 use lexer::punctuator::NOT;
@@ -42,7 +41,7 @@ pub(crate) const END: u8 = 36;
 const NONE: u8 = 37;
 
 fn digits_number(digits: u64, places: u8) -> u8
-    ensures { λ r. ⌜ r ≡ cond (eqb places 0 && ltb digits 4) (22 + digits) 26 ⌝ }
+    ensures { λ r. ⌜ r ≡ numberOf (Number digits places) ⌝ }
 {
     if (places == 0) & (digits < 4) {
         FIRST_INDEX + (digits % 4) as u8
@@ -52,13 +51,13 @@ fn digits_number(digits: u64, places: u8) -> u8
 }
 
 fn word_number(k: u8) -> u8
-    ensures { λ r. ⌜ r ≡ cond (ltb k 6) (28 + k) 34 ⌝ }
+    ensures { λ r. ⌜ r ≡ numberOf (Word k) ⌝ }
 {
     if k < 6 { FIRST_WORD + k } else { WORD }
 }
 
 fn punctuator_number(k: u8) -> u8
-    ensures { λ r. ⌜ r ≡ cond (ltb k 22) k 37 ⌝ }
+    ensures { λ r. ⌜ r ≡ numberOf (Punctuator k) ⌝ }
 {
     if k < FIRST_INDEX { k } else { NONE }
 }

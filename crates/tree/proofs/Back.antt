@@ -8,6 +8,8 @@ use lib.ListN.{length, getD, length-set, List·getD-append}
 use lib.Seq.{getD-set-same, getD-set-other}
 use Rattle.tree.specs.Tree.{Tree, literal, variable, unary, binary, conditional, bare, call, pick, place, Arguments, last, next}
 use Rattle.tree.specs.Slots.{
+  tags,
+  links,
   word,
   tagAt,
   leftAt,
@@ -86,7 +88,7 @@ Holds v (after p tag e) = (getD v p 0 ≡ word tag (root e)) × Holds v e
 -- Slots that agree from lo up to hi, but for the link of the last one: it is free.
 record Same (v u : List ℕ) (lo hi : ℕ) : Type 0 where
   slot : (i : ℕ) → lo ≤ i → i + 1 < hi → getD u i 0 ≡ getD v i 0
-  tag : (i : ℕ) → lo ≤ i → i < hi → tagAt v i < 64 → tagAt u i ≡ tagAt v i
+  tag : (i : ℕ) → lo ≤ i → i < hi → tagAt v i < tags → tagAt u i ≡ tagAt v i
 
 same-part : {v u : List ℕ} {lo hi : ℕ} (lo′ hi′ : ℕ) → lo ≤ lo′ → hi′ ≤ hi → Same v u lo hi → Same v u lo′ hi′
 same-part lo′ hi′ a b s = record { slot = λ i l h. s .slot i (omega arith) (omega arith); tag = λ i l h. s .tag i (omega arith) (omega arith) }
@@ -127,7 +129,7 @@ same-left v b lo p tag left right alike = record {
       link-tag (put b p tag right) (p - 1) left i (omega arith) ∙ same;
 }
 
-pub holds-lay : (w : List ℕ) (lo hi : ℕ) (s : Shape) → Within lo hi s → hi ≤ 1024 → hi ≤ length w → Holds (lay w s) s
+pub holds-lay : (w : List ℕ) (lo hi : ℕ) (s : Shape) → Within lo hi s → hi ≤ links → hi ≤ length w → Holds (lay w s) s
 unfolding Holds Within lay
 holds-lay w lo hi (leaf p tag) t m n = ap (λ (n : ℕ). n / 1024) (getD-set-same w p (word tag 0) 0 (omega arith)) ∙ tag-word tag 0 (t .2)
 holds-lay w lo hi (held p tag x) t m n = getD-set-same w p (word tag x) 0 (omega arith)
@@ -189,7 +191,7 @@ alone tree (suc n) v p no-comma = rw (argument-last v p no-comma)
 mutual
   unfolding Within Known Holds pruned argumentsAt
 
-  tree-back : (v : List ℕ) (lo hi : ℕ) (e : Tree) (h : ℕ) → Within lo hi (shapeOf e) → Known e → hi ≤ 1024 → Holds v (shapeOf e) → treeAt h v (root (shapeOf e)) ≡ pruned e h
+  tree-back : (v : List ℕ) (lo hi : ℕ) (e : Tree) (h : ℕ) → Within lo hi (shapeOf e) → Known e → hi ≤ links → Holds v (shapeOf e) → treeAt h v (root (shapeOf e)) ≡ pruned e h
   tree-back v lo hi (literal p k) h t known m holds = grows v p h _ (λ g. rw (node-literal v p k holds known))
   tree-back v lo hi (variable p n) h t known m holds = grows v p h _ (λ g. rw (node-variable v p n holds (t .3)))
   tree-back v lo hi (unary p o e) h t known m holds =
@@ -224,7 +226,7 @@ mutual
       let r = root-within lo p (shapeOf e) (t .3) in
       grows v p h _ (λ g. rw (node-pick v p i (root (shapeOf e)) (holds .0) (known .0) (omega arith), tree-back v lo p e g (t .3) (known .1) (omega arith) (holds .1)))
 
-  arguments-back : (v : List ℕ) (lo hi : ℕ) (xs : Arguments) (n h : ℕ) → Within lo hi (shapesOf xs) → KnownAll xs → hi ≤ 1024 → hi - lo ≤ n → Holds v (shapesOf xs) →
+  arguments-back : (v : List ℕ) (lo hi : ℕ) (xs : Arguments) (n h : ℕ) → Within lo hi (shapesOf xs) → KnownAll xs → hi ≤ links → hi - lo ≤ n → Holds v (shapesOf xs) →
       argumentsAt (treeAt h v) n v (root (shapesOf xs)) ≡ prunedAll xs h
   arguments-back v lo hi (last e) n h t known m room holds =
       alone (treeAt h v) n v (root (shapeOf e)) (not-comma v e known holds) ∙ ap last (tree-back v lo hi e h t known m holds)
@@ -238,9 +240,9 @@ mutual
       )
 
 -- Any slots that hold a tree give it, as deep as is allowed.
-pub read-back : (v : List ℕ) (lo hi : ℕ) (e : Tree) (h : ℕ) → Within lo hi (shapeOf e) → Known e → hi ≤ 1024 → Holds v (shapeOf e) → treeAt h v (place e) ≡ pruned e h
+pub read-back : (v : List ℕ) (lo hi : ℕ) (e : Tree) (h : ℕ) → Within lo hi (shapeOf e) → Known e → hi ≤ links → Holds v (shapeOf e) → treeAt h v (place e) ≡ pruned e h
 read-back v lo hi e h t known m holds = subst (λ (p : ℕ). treeAt h v p ≡ pruned e h) (root-shape e) (tree-back v lo hi e h t known m holds)
 
 -- And so do those into which it was written.
-pub stored : (w : List ℕ) (lo hi : ℕ) (e : Tree) (h : ℕ) → Within lo hi (shapeOf e) → Known e → hi ≤ 1024 → hi ≤ length w → treeAt h (store w e) (place e) ≡ pruned e h
+pub stored : (w : List ℕ) (lo hi : ℕ) (e : Tree) (h : ℕ) → Within lo hi (shapeOf e) → Known e → hi ≤ links → hi ≤ length w → treeAt h (store w e) (place e) ≡ pruned e h
 stored w lo hi e h t known m room = read-back (store w e) lo hi e h t known m (holds-lay w lo hi (shapeOf e) t m room)

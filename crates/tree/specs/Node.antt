@@ -3,8 +3,8 @@ use mathlib.Core.Bool.{cond}
 use mathlib.Core.List.{List}
 use Prim.Native.Nat.{ℕ, zero, suc, _-_}
 use lib.Dec.{eqb, ltb}
-use Rattle.tree.specs.Tree.{Tree, literal, variable, unary, binary, conditional, bare, call, pick, Arguments, last, next}
-use Rattle.tree.specs.Slots.{tagAt, linkAt, leftAt}
+use Rattle.tree.specs.Tree.{numberForm, Tree, literal, variable, unary, binary, conditional, bare, call, pick, Arguments, last, next}
+use Rattle.tree.specs.Slots.{links, tagAt, linkAt, leftAt, variableTag, firstFunctionTag, questionTag, commaTag, firstPickTag}
 use Rattle.tree.specs.declared.node.Node.{Node}
 use Rattle.tree.specs.declared.node.Node.the-variants.{Literal, Variable, Unary, Binary, Conditional, Bare, Call, Pick}
 use Rattle.tree.specs.declared.node.Argument.{Argument}
@@ -13,28 +13,28 @@ use Rattle.tree.specs.declared.node.Argument.the-variants.{Last, Next}
 -- a node with a part after it, or none, by its tag and its link
 unfoldable pub prefixNode : ℕ → ℕ → Node
 prefixNode tag link =
-    cond (ltb tag 8) (Literal tag)
-    (cond (eqb tag 8) (Variable link)
-    (cond (ltb tag 16) (Unary tag link)
-    (cond (eqb link 0) (Bare (tag - 16)) (Call (tag - 16) link))))
+    cond (ltb tag variableTag) (Literal tag)
+    (cond (eqb tag variableTag) (Variable link)
+    (cond (ltb tag firstFunctionTag) (Unary tag link)
+    (cond (eqb link 0) (Bare (tag - firstFunctionTag)) (Call (tag - firstFunctionTag) link))))
 
 -- a node with parts on both sides; `?` has the places of its branches at the `:`
 unfoldable pub infixNode : List ℕ → ℕ → Node
 infixNode w p =
-    cond (eqb (tagAt w p) 40) (Conditional (linkAt w p) (leftAt w p) (leftAt w (linkAt w p)) (linkAt w (linkAt w p)))
-    (Binary (tagAt w p - 40) (leftAt w p) (linkAt w p))
+    cond (eqb (tagAt w p) questionTag) (Conditional (linkAt w p) (leftAt w p) (leftAt w (linkAt w p)) (linkAt w (linkAt w p)))
+    (Binary (tagAt w p - questionTag) (leftAt w p) (linkAt w p))
 
 -- the node at a place
 unfoldable pub nodeAt : List ℕ → ℕ → Node
 unfolding prefixNode infixNode
 nodeAt w p =
-    cond (ltb (tagAt w p) 40) (prefixNode (tagAt w p) (linkAt w p))
-    (cond (ltb (tagAt w p) 56) (infixNode w p)
-    (Pick (tagAt w p - 56) (linkAt w p)))
+    cond (ltb (tagAt w p) questionTag) (prefixNode (tagAt w p) (linkAt w p))
+    (cond (ltb (tagAt w p) firstPickTag) (infixNode w p)
+    (Pick (tagAt w p - firstPickTag) (linkAt w p)))
 
 -- an argument at a place: the last one, or one with a comma after it
 unfoldable pub argumentAt : List ℕ → ℕ → Argument
-argumentAt w p = cond (eqb (tagAt w p) 55) (Next (leftAt w p) (linkAt w p)) Last
+argumentAt w p = cond (eqb (tagAt w p) commaTag) (Next (leftAt w p) (linkAt w p)) Last
 
 -- the arguments at a place, n of them and one more at most, by the tree at each
 abbrev pub argued : Argument → ℕ → (ℕ → Tree) → (ℕ → Arguments) → Arguments
@@ -57,12 +57,12 @@ grown (Bare f) p tree arguments = bare p f
 grown (Call f xs) p tree arguments = call p f (arguments xs)
 grown (Pick i e) p tree arguments = pick p i (tree e)
 
--- a call has fewer commas than its expression has bytes
+-- a call has fewer commas than its expression has places
 abbrev pub mostCommas : ℕ
-mostCommas = 1024
+mostCommas = links
 
 -- The tree at a place, h nodes deep at most: what is deeper reads as a literal.
 unfoldable pub treeAt : ℕ → List ℕ → ℕ → Tree
 unfolding nodeAt argumentsAt
-treeAt zero w p = literal p 0
+treeAt zero w p = literal p numberForm
 treeAt (suc h) w p = grown (nodeAt w p) p (treeAt h w) (argumentsAt (treeAt h w) mostCommas w)

@@ -5,18 +5,25 @@
 use mathlib.Core.List.{List}
 use Prim.Native.Nat.{ℕ, _+_, _*_, _-_, _/_, _%_}
 use lib.ListN.{getD, set}
-use Rattle.tree.specs.Tree.{Tree, literal, variable, unary, binary, conditional, bare, call, pick, Arguments, last, next}
+use Rattle.tree.specs.Tree.{forms, Tree, literal, variable, unary, binary, conditional, bare, call, pick, Arguments, last, next}
 
 -- ---- a slot
 
+-- how many tags there are, of six bits, and how many links, of ten
+abbrev pub tags : ℕ
+tags = 64
+
+abbrev pub links : ℕ
+links = 1024
+
 abbrev pub word : ℕ → ℕ → ℕ
-word tag link = tag % 64 * 1024 + link % 1024
+word tag link = tag % tags * links + link % links
 
 abbrev pub tagAt : List ℕ → ℕ → ℕ
-tagAt w p = getD w p 0 / 1024
+tagAt w p = getD w p 0 / links
 
 abbrev pub linkAt : List ℕ → ℕ → ℕ
-linkAt w p = getD w p 0 % 1024
+linkAt w p = getD w p 0 % links
 
 -- the link of the slot before a place
 abbrev pub leftAt : List ℕ → ℕ → ℕ
@@ -36,22 +43,35 @@ join w p tag left right = setLink (put w p tag right) (p - 1) left
 
 -- ---- the tags
 
--- literals have the tags 0 to 7, and unary operators that of their punctuator, from 9 to 15
+-- A literal's tag is its form, and variables have the first one behind the forms. A unary operator's tag is its punctuator's number, which
+-- is above that; then come the functions, the operators with parts on both sides, the comma of arguments, and picks.
 abbrev pub variableTag : ℕ
-variableTag = 8
+variableTag = forms
+
+abbrev pub firstFunctionTag : ℕ
+firstFunctionTag = 16
 
 abbrev pub functionTag : ℕ → ℕ
-functionTag f = 16 + f
+functionTag f = firstFunctionTag + f
 
--- `?` has the tag 40 and `:` the tag 41; binary operators have those from 42 to 54
+-- `?` and `:` are the first punctuators
+abbrev pub questionTag : ℕ
+questionTag = 40
+
+abbrev pub colonTag : ℕ
+colonTag = 41
+
 abbrev pub operatorTag : ℕ → ℕ
-operatorTag o = 40 + o
+operatorTag o = questionTag + o
 
 abbrev pub commaTag : ℕ
 commaTag = 55
 
+abbrev pub firstPickTag : ℕ
+firstPickTag = 56
+
 abbrev pub pickTag : ℕ → ℕ
-pickTag i = 56 + i
+pickTag i = firstPickTag + i
 
 -- ---- what lies in the slots
 
@@ -82,7 +102,7 @@ lay w (after p tag e) = put (lay w e) p tag (root e)
 
 -- what stands before the `:` of a conditional, and after it
 abbrev pub branches : ℕ → Shape → Shape → Shape
-branches q a b = between q (operatorTag 1) a b
+branches q a b = between q colonTag a b
 
 abbrev mutual
   pub shapeOf : Tree → Shape
@@ -90,7 +110,7 @@ abbrev mutual
   shapeOf (variable p n) = held p variableTag n
   shapeOf (unary p o e) = before p o (shapeOf e)
   shapeOf (binary p o l r) = between p (operatorTag o) (shapeOf l) (shapeOf r)
-  shapeOf (conditional p q c a b) = between p (operatorTag 0) (shapeOf c) (branches q (shapeOf a) (shapeOf b))
+  shapeOf (conditional p q c a b) = between p questionTag (shapeOf c) (branches q (shapeOf a) (shapeOf b))
   shapeOf (bare p f) = held p (functionTag f) 0
   shapeOf (call p f xs) = before p (functionTag f) (shapesOf xs)
   shapeOf (pick p i e) = after p (pickTag i) (shapeOf e)

@@ -1,9 +1,24 @@
 -- The tree of an expression: page 01, "Tokens and grammar". Each node has its place, the byte offset in the expression of its token.
 use Prim.Native.Nat.{ℕ}
 
+-- The forms of a literal: "a number, string, .. `true`, `false`, `null`, `undefined`, `NaN`, `Infinity`". The literal words have the forms
+-- from the first one on, in this order.
+abbrev pub numberForm : ℕ
+numberForm = 0
+
+abbrev pub stringForm : ℕ
+stringForm = 1
+
+abbrev pub firstWordForm : ℕ
+firstWordForm = 2
+
+-- how many there are
+abbrev pub forms : ℕ
+forms = 8
+
 mutual
   pub data Tree : Type 0 where
-    -- a number, a string or a literal word, by the number of the form: `specs/Symbol.antt` of the crate `syntax` has them
+    -- a number, a string or a literal word, by its form
     literal : ℕ → ℕ → Tree
     -- a variable, with the number that its name stands for; 0 until someone has looked the name up
     variable : ℕ → ℕ → Tree

@@ -1,7 +1,13 @@
 // Reading a node from the slots, by its place.
 ghost use mathlib.Core.Path.{_≡_};
 ghost use Prim.Native.Nat.{_-_};
+ghost use Rattle.tree.specs.Slots.{questionTag};
 ghost use Rattle.tree.specs.Node.{prefixNode, infixNode, nodeAt, argumentAt};
+use crate::slots::COMMA;
+use crate::slots::FIRST_FUNCTION;
+use crate::slots::FIRST_PICK;
+use crate::slots::QUESTION;
+use crate::slots::VARIABLE;
 use crate::slots::left_at;
 use crate::slots::link_at;
 use crate::slots::tag_at;
@@ -54,19 +60,19 @@ pub const MOST_COMMAS: usize = 1024;
 fn prefix_node(tag: usize, link: usize) -> Node
     ensures { λ r. ⌜ r ≡ prefixNode tag link ⌝ }
 {
-    if tag < 8 {
+    if tag < VARIABLE {
         return Node::Literal(tag);
     }
-    if tag == 8 {
+    if tag == VARIABLE {
         return Node::Variable(link);
     }
-    if tag < 16 {
+    if tag < FIRST_FUNCTION {
         return Node::Unary {
             operator: tag,
             part: link,
         };
     }
-    let function = tag - 16;
+    let function = tag - FIRST_FUNCTION;
     if link == 0 {
         Node::Bare { function }
     } else {
@@ -79,19 +85,19 @@ fn prefix_node(tag: usize, link: usize) -> Node
 
 // The punctuator of an operator with parts on both sides, by its tag.
 fn operator_of(tag: usize) -> usize
-    ensures { λ r. ⌜ r ≡ tag - 40 ⌝ }
+    ensures { λ r. ⌜ r ≡ tag - questionTag ⌝ }
 {
-    if tag < 40 { 0 } else { tag - 40 }
+    if tag < QUESTION { 0 } else { tag - QUESTION }
 }
 
-// The node with the tag at a place, from 40 on.
+// The node with the tag at a place, from that of `?` on.
 fn infix_node(slots: &[u16], at: usize) -> Node
     ensures { λ r. ⌜ r ≡ infixNode (now (slots .entry)) at ⌝ }
 {
     let tag = tag_at(slots, at);
     let left = left_at(slots, at);
     let right = link_at(slots, at);
-    if tag == 40 {
+    if tag == QUESTION {
         return Node::Conditional {
             colon: right,
             test: left,
@@ -110,14 +116,14 @@ pub fn node_at(slots: &[u16], at: usize) -> Node
     ensures { λ r. ⌜ r ≡ nodeAt (now (slots .entry)) at ⌝ }
 {
     let tag = tag_at(slots, at);
-    if tag < 40 {
+    if tag < QUESTION {
         return prefix_node(tag, link_at(slots, at));
     }
-    if tag < 56 {
+    if tag < FIRST_PICK {
         return infix_node(slots, at);
     }
     Node::Pick {
-        index: tag - 56,
+        index: tag - FIRST_PICK,
         part: link_at(slots, at),
     }
 }
@@ -126,7 +132,7 @@ pub fn node_at(slots: &[u16], at: usize) -> Node
 pub fn argument_at(slots: &[u16], at: usize) -> Argument
     ensures { λ r. ⌜ r ≡ argumentAt (now (slots .entry)) at ⌝ }
 {
-    if tag_at(slots, at) == 55 {
+    if tag_at(slots, at) == COMMA {
         Argument::Next {
             first: left_at(slots, at),
             rest: link_at(slots, at),

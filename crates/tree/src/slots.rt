@@ -4,10 +4,28 @@ ghost use Prim.Native.Nat.{_+_, _*_, _-_, _/_, _%_};
 ghost use lib.ListN.{getD};
 ghost use Rattle.tree.specs.Slots.{word, tagAt, linkAt, leftAt, put, setLink, join};
 
+const TAGS: usize = 64;
+
+const LINKS: usize = 1024;
+
+// A literal's tag is its form, below the variables'; a unary operator's is its punctuator's number.
+pub(crate) const VARIABLE: usize = 8;
+
+pub(crate) const FIRST_FUNCTION: usize = 16;
+
+// Operators with parts on both sides begin with `?` and `:`.
+pub(crate) const QUESTION: usize = 40;
+
+pub(crate) const COLON: usize = 41;
+
+pub(crate) const COMMA: usize = 55;
+
+pub(crate) const FIRST_PICK: usize = 56;
+
 fn packed(tag: usize, link: usize) -> u16
     ensures { λ r. ⌜ r ≡ word tag link ⌝ }
 {
-    (tag % 64 * 1024 + link % 1024) as u16
+    (tag % TAGS * LINKS + link % LINKS) as u16
 }
 
 // The word of a slot, and 0 past the end.
@@ -20,13 +38,13 @@ pub(crate) fn word_at(slots: &[u16], at: usize) -> u16
 pub(crate) fn tag_at(slots: &[u16], at: usize) -> usize
     ensures { λ r. ⌜ r ≡ tagAt (now (slots .entry)) at ⌝ }
 {
-    (word_at(slots, at) / 1024) as usize
+    (word_at(slots, at) as usize) / LINKS
 }
 
 pub(crate) fn link_at(slots: &[u16], at: usize) -> usize
     ensures { λ r. ⌜ r ≡ linkAt (now (slots .entry)) at ⌝ }
 {
-    (word_at(slots, at) % 1024) as usize
+    (word_at(slots, at) as usize) % LINKS
 }
 
 fn place_before(at: usize) -> usize

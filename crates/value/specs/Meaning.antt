@@ -1,9 +1,10 @@
 -- What operators, functions and picks make of values: page 01, "Kinds and meaning". `text` gives the bytes of a string.
 use mathlib.Core.Bool.{Bool, not, cond, _&&_, _||_}
 use mathlib.Core.List.{List, map, _++_}
-use Prim.Native.Nat.{ℕ, zero, suc, _-_}
+use Prim.Native.Nat.{ℕ, zero, suc}
 use lib.ListN.{getD}
 use lib.Ieee.{Float, binary64, add, sub, mul}
+use Rattle.number.specs.Arithmetic.{nought}
 use Rattle.kind.specs.Kind.{eqKind, dimensionOf}
 use Rattle.kind.specs.Operation.{indexOf}
 use Rattle.kind.specs.Rule.{ruleOf}
@@ -62,13 +63,14 @@ equalityOf text NotEqual a b = not (equalOf text a b)
 
 -- ---- products
 
--- the sum of the numbers with indices 0 to n, "added left to right"
-abbrev pub sumTo : ℕ → (ℕ → Float) → Float
-sumTo zero g = g 0
-sumTo (suc n) g = add binary64 (sumTo n g) (g (suc n))
+-- the sum of the numbers with indices below n, "added left to right"
+abbrev pub sumOf : ℕ → (ℕ → Float) → Float
+sumOf zero g = nought
+sumOf (suc zero) g = g 0
+sumOf (suc (suc n)) g = add binary64 (sumOf (suc n) g) (g (suc n))
 
 unfoldable pub dotOf : Value → Value → Float
-dotOf a b = sumTo (dimensionOf (kindOf a) - 1) (λ i. mul binary64 (at i a) (at i b))
+dotOf a b = sumOf (dimensionOf (kindOf a)) (λ i. mul binary64 (at i a) (at i b))
 
 -- p.j q.k - p.k q.j
 unfoldable pub crossAt : Value → Value → ℕ → ℕ → Float

@@ -14,7 +14,8 @@ use lexer::bytes::same_part;
 
 // Whether two strings are the same: each lies in the style's text or in the feature's.
 pub fn same_text(style: &[u8], feature: &[u8], a: Span, b: Span) -> bool
-    ensures { λ r. ⌜ r ≡ same (textIn (now (style .entry)) (now (feature .entry)) a) (textIn (now (style .entry)) (now (feature .entry)) b) ⌝ }
+    ensures { λ r. ⌜ r ≡ same (textIn (now (style .entry)) (now (feature .entry)) a)
+        (textIn (now (style .entry)) (now (feature .entry)) b) ⌝ }
 {
     if a.literal {
         if b.literal {

@@ -3,9 +3,11 @@ ghost use mathlib.Core.Path.{_≡_};
 ghost use lib.Seq.{slice};
 ghost use Rattle.colour.specs.Text.{colourOf};
 ghost use Rattle.value.specs.Value.{textIn};
-ghost use Rattle.value.specs.Meaning.{byComponent, logicOf, equalityOf, dotOf, crossAt, productOf, joinedAt, orWhite, alphaOr, colorOf, vec4Of, constructed, madeOf};
-ghost use Rattle.value.specs.Inner.{productAt, scalarAt};
+ghost use Rattle.value.specs.Meaning.{byComponent, logicOf, equalityOf, dotOf, crossAt, productOf, orWhite, alphaOr, colorOf};
+ghost use Rattle.value.specs.Meaning.{vec4Of, constructed, madeOf};
+ghost use Rattle.value.specs.Inner.{scalarAt};
 use crate::equality::equal;
+use crate::join::first_four;
 use crate::scalar::binary;
 use crate::scalar::order;
 use crate::scalar::ternary;
@@ -15,13 +17,9 @@ use crate::value::Span;
 use crate::value::Value;
 use crate::value::component;
 use crate::value::is_true;
-use crate::value::kind_of;
-use crate::value::span_of;
 use colour::colour::Colour;
 use colour::text::Named;
 use kind::kind::Kind;
-use kind::kind::dimension;
-use kind::kind::is;
 use kind::operation::Constructor;
 use kind::operation::Equality;
 use kind::operation::Logic;
@@ -53,25 +51,27 @@ fn scalar_at(operation: Operation, a: Value, b: Value, c: Value, i: u8) -> f64
 fn by_component(operation: Operation, kind: Kind, a: Value, b: Value, c: Value) -> Value
     ensures { λ r. ⌜ r ≡ byComponent kind (scalarAt operation a b c) ⌝ }
 {
-    let n = dimension(kind);
-    match n {
-        1 => Value::Number(scalar_at(operation, a, b, c, 0)),
-        2 => Value::Vec2(
+    match kind {
+        Kind::Undefined => Value::Undefined,
+        Kind::Null => Value::Undefined,
+        Kind::Boolean => Value::Undefined,
+        Kind::Number => Value::Number(scalar_at(operation, a, b, c, 0)),
+        Kind::String => Value::Undefined,
+        Kind::Vec2 => Value::Vec2(
             scalar_at(operation, a, b, c, 0),
             scalar_at(operation, a, b, c, 1),
         ),
-        3 => Value::Vec3(
+        Kind::Vec3 => Value::Vec3(
             scalar_at(operation, a, b, c, 0),
             scalar_at(operation, a, b, c, 1),
             scalar_at(operation, a, b, c, 2),
         ),
-        4 => Value::Vec4(
+        Kind::Vec4 => Value::Vec4(
             scalar_at(operation, a, b, c, 0),
             scalar_at(operation, a, b, c, 1),
             scalar_at(operation, a, b, c, 2),
             scalar_at(operation, a, b, c, 3),
         ),
-        _ => Value::Undefined,
     }
 }
 
@@ -99,30 +99,23 @@ fn equality(style: &[u8], feature: &[u8], f: Equality, a: Value, b: Value) -> bo
 
 // ---- products
 
-fn product_at(a: Value, b: Value, i: u8) -> f64
-    ensures { λ r. ⌜ r ≡ productAt a b i ⌝ }
-{
-    component(a, i) * component(b, i)
-}
-
 // The products of the components, added left to right.
 fn dot(a: Value, b: Value) -> f64
     ensures { λ r. ⌜ r ≡ dotOf a b ⌝ }
 {
-    let n = dimension(kind_of(a));
-    let one = product_at(a, b, 0);
-    if n < 2 {
-        return one;
+    match a {
+        Value::Undefined => 0.0,
+        Value::Null => 0.0,
+        Value::Boolean(_) => 0.0,
+        Value::Number(x) => x * component(b, 0),
+        Value::String(_) => 0.0,
+        Value::Vec2(x, y) => x * component(b, 0) + y * component(b, 1),
+        Value::Vec3(x, y, z) => { x * component(b, 0) + y * component(b, 1) + z * component(b, 2) }
+        Value::Vec4(x, y, z, w) => {
+            let three = x * component(b, 0) + y * component(b, 1) + z * component(b, 2);
+            three + w * component(b, 3)
+        }
     }
-    let two = one + product_at(a, b, 1);
-    if n < 3 {
-        return two;
-    }
-    let three = two + product_at(a, b, 2);
-    if n < 4 {
-        return three;
-    }
-    three + product_at(a, b, 3)
 }
 
 // p.j q.k - p.k q.j
@@ -146,31 +139,6 @@ fn product(f: Product, a: Value, b: Value) -> Value
 }
 
 // ---- constructors
-
-// A component of the operands' components, joined in turn; past the end, the first operand's first.
-fn joined_at(a: Value, b: Value, c: Value, d: Value, i: u8) -> f64
-    ensures { λ r. ⌜ r ≡ joinedAt a b c d i ⌝ }
-{
-    let first = dimension(kind_of(a));
-    if i < first {
-        return component(a, i);
-    }
-    let j = i - first;
-    let second = dimension(kind_of(b));
-    if j < second {
-        return component(b, j);
-    }
-    let k = j - second;
-    let third = dimension(kind_of(c));
-    if k < third {
-        return component(c, k);
-    }
-    let l = k - third;
-    if l < dimension(kind_of(d)) {
-        return component(d, l);
-    }
-    component(a, 0)
-}
 
 // White, if the text names no colour: a style with such a text is refused before.
 fn or_white(named: Named) -> Colour
@@ -204,10 +172,15 @@ fn colour_in(style: &[u8], feature: &[u8], s: Span) -> Colour
 fn alpha_or(c: Colour, a: Value) -> Colour
     ensures { λ r. ⌜ r ≡ alphaOr c a ⌝ }
 {
-    if is(Kind::Number, kind_of(a)) {
-        c.with_alpha(component(a, 0))
-    } else {
-        c
+    match a {
+        Value::Undefined => c,
+        Value::Null => c,
+        Value::Boolean(_) => c,
+        Value::Number(x) => c.with_alpha(x),
+        Value::String(_) => c,
+        Value::Vec2(_, _) => c,
+        Value::Vec3(_, _, _) => c,
+        Value::Vec4(_, _, _, _) => c,
     }
 }
 
@@ -215,14 +188,19 @@ fn alpha_or(c: Colour, a: Value) -> Colour
 fn color(style: &[u8], feature: &[u8], a: Value, b: Value) -> Colour
     ensures { λ r. ⌜ r ≡ colorOf (textIn (now (style .entry)) (now (feature .entry))) a b ⌝ }
 {
-    if is(Kind::String, kind_of(a)) {
-        alpha_or(colour_in(style, feature, span_of(a)), b)
-    } else {
-        Colour::WHITE
+    match a {
+        Value::Undefined => Colour::WHITE,
+        Value::Null => Colour::WHITE,
+        Value::Boolean(_) => Colour::WHITE,
+        Value::Number(_) => Colour::WHITE,
+        Value::String(s) => alpha_or(colour_in(style, feature, s), b),
+        Value::Vec2(_, _) => Colour::WHITE,
+        Value::Vec3(_, _, _) => Colour::WHITE,
+        Value::Vec4(_, _, _, _) => Colour::WHITE,
     }
 }
 
-fn vec4(c: Colour) -> Value
+fn vec4_of(c: Colour) -> Value
     ensures { λ r. ⌜ r ≡ vec4Of c ⌝ }
 {
     Value::Vec4(c.red, c.green, c.blue, c.alpha)
@@ -240,26 +218,26 @@ fn construct(
     ensures { λ r. ⌜ r ≡ constructed (textIn (now (style .entry)) (now (feature .entry))) f a b c d ⌝ }
 {
     match f {
-        Constructor::Vec2 => Value::Vec2(joined_at(a, b, c, d, 0), joined_at(a, b, c, d, 1)),
-        Constructor::Vec3 => Value::Vec3(
-            joined_at(a, b, c, d, 0),
-            joined_at(a, b, c, d, 1),
-            joined_at(a, b, c, d, 2),
-        ),
-        Constructor::Vec4 => Value::Vec4(
-            joined_at(a, b, c, d, 0),
-            joined_at(a, b, c, d, 1),
-            joined_at(a, b, c, d, 2),
-            joined_at(a, b, c, d, 3),
-        ),
-        Constructor::Rgb => vec4(Colour::rgb(component(a, 0), component(b, 0), component(c, 0))),
-        Constructor::Rgba => vec4(Colour::rgba(
+        Constructor::Vec2 => {
+            let n = first_four(a, b, c, d);
+            Value::Vec2(n.x, n.y)
+        }
+        Constructor::Vec3 => {
+            let n = first_four(a, b, c, d);
+            Value::Vec3(n.x, n.y, n.z)
+        }
+        Constructor::Vec4 => {
+            let n = first_four(a, b, c, d);
+            Value::Vec4(n.x, n.y, n.z, n.w)
+        }
+        Constructor::Rgb => vec4_of(Colour::rgb(component(a, 0), component(b, 0), component(c, 0))),
+        Constructor::Rgba => vec4_of(Colour::rgba(
             component(a, 0),
             component(b, 0),
             component(c, 0),
             component(d, 0),
         )),
-        Constructor::Color => vec4(color(style, feature, a, b)),
+        Constructor::Color => vec4_of(color(style, feature, a, b)),
     }
 }
 

@@ -4,9 +4,7 @@ use mathlib.Core.List.{List, [], _∷_, _++_}
 use Prim.Native.Nat.{ℕ, zero, suc, _+_, _-_, _<_, _≤_}
 use native.Mathlib.Omega.{arith}
 use lib.ListN.{length, getD, length-set}
-use lib.Seq.{slice-empty, getD-set-same, getD-set-other}
-use Rattle.lexer.specs.Bytes.{isSpace}
-use Rattle.lexer.specs.Spelling.{All, SpacesUpTo, Munch}
+use lib.Seq.{getD-set-same, getD-set-other}
 use Rattle.lexer.specs.Token.{lexemeAt}
 use Rattle.lexer.specs.Tokens.{Placed, placed, Lexed, tokens, badAt, after, tokensFrom, tokensOf}
 use Rattle.lexer.specs.Tokens as lexed
@@ -14,9 +12,8 @@ use Rattle.lexer.specs.declared.token.Token.{Token}
 use Rattle.lexer.specs.declared.token.Token.the-variants.{Number, String, Variable, Word, Punctuator}
 use Rattle.lexer.specs.declared.token.Lexeme.{Lexeme}
 use Rattle.lexer.specs.declared.token.Lexeme.the-variants.{Found, Bad, End}
-use Rattle.lexer.proofs.Munch.{munch}
+use Rattle.lexer.proofs.Found.{found-again}
 use Rattle.lexer.proofs.OnDemand.{on-demand}
-use Rattle.lexer.proofs.Only.{is-lexeme}
 use Rattle.tree.specs.Slots.{word, variableTag}
 use Rattle.syntax.specs.Place.{symbolsOf}
 use Rattle.syntax.specs.Symbol.{numberOf}
@@ -26,13 +23,6 @@ use Rattle.checker.specs.Inner.{Stands}
 use Rattle.checker.proofs.Law.Names.{found-ahead, found-stands, no-step, one-step}
 
 -- ---- tokens in their order
-
--- a token is found at its own place too
-found-again : (text : List ℕ) (from : ℕ) (t : Token) (at end : ℕ) → lexemeAt text from ≡ Found t at end → lexemeAt text at ≡ Found t at end
-found-again text from t at end e =
-    let m : Munch text from (Found t at end) = subst (Munch text from) e (munch text from) in
-    let here : SpacesUpTo text at at = record { onward = omega arith; inside = m .0 .inside; spaces = subst (All isSpace) (sym (slice-empty at text)) tt; no-more = m .0 .no-more } in
-    sym (is-lexeme text at (Found t at end) (here, m .1, m .2, m .3))
 
 -- each token stands in the text, at the end of the one before or after it
 abbrev pub Rising : List ℕ → ℕ → List Placed → Type 0

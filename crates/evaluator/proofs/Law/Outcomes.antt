@@ -1,14 +1,14 @@
--- Laws of what nodes come to: an operation on outcomes, a test, and a binary operator by its left side.
+-- Laws of what nodes come to: an operation on outcomes, a test, and a binary operator by what it needs.
 use mathlib.Core.Path.{_≡_, refl, sym, _∙_, ap}
-use mathlib.Core.Bool.{Bool, true, false, cond, _||_, true≢false}
+use mathlib.Core.Bool.{Bool, true, false, not, cond, _&&_, Bool·beq, true≢false}
 use mathlib.Core.List.{List, [], _∷_, map}
 use Prim.Native.Nat.{ℕ}
-use native.Mathlib.Omega.{arith}
-use lib.Dec.{eqb}
-use borrow.Author.Tests.{eqb-true}
+use lib.Dec.{T}
 use Rattle.kind.specs.Kind.{eqKind}
 use Rattle.kind.specs.declared.kind.Kind.the-variants as kind
+use Rattle.kind.specs.declared.operation.Logic.the-variants.{Not, And, Or}
 use Rattle.kind.specs.declared.operation.Operation.{Operation}
+use Rattle.kind.specs.declared.operation.Operation.the-variants as op
 use Rattle.kind.proofs.Law.Signatures.{over-four}
 use Rattle.value.specs.Value.{kindOf, truth}
 use Rattle.value.specs.Meaning.{meaning}
@@ -19,9 +19,11 @@ use Rattle.value.specs.declared.apply.Outcome.the-variants.{Fault, Worked}
 use Rattle.value.specs.declared.value.Span.{Span}
 use Rattle.value.specs.declared.value.Value.{Value}
 use Rattle.value.specs.declared.value.Value.the-variants.{Boolean}
-use Rattle.checker.specs.Operator.{infixAt, or, and}
-use Rattle.evaluator.specs.Eval.{valueIn, someFault, applied, branchOf, booleanOf, orOf, andOf, binaryOf}
-use Rattle.evaluator.specs.Inner.{testedOf, isLogical, decidesBy}
+use Rattle.evaluator.specs.Eval.{valueIn, someFault, applied, branchOf, booleanOf, needOf, binaryBy, cameTo, needsRight}
+use Rattle.evaluator.specs.Demand.{needsBoth}
+use Rattle.evaluator.specs.Inner.{testedOf, withRight}
+use Rattle.evaluator.specs.declared.need.Need.{Need}
+use Rattle.evaluator.specs.declared.need.Need.the-variants.{Both, UntilTrue, UntilFalse}
 use Rattle.evaluator.specs.declared.truth.Truth.{Truth}
 use Rattle.evaluator.specs.declared.truth.Truth.the-variants as truth-of
 
@@ -70,89 +72,91 @@ branch-tested (Worked v) a b = go (eqKind kind.Boolean (kindOf v)) (truth v)
 pub branch-by : (t : Truth) (o x a b r : Outcome) → t ≡ testedOf x → x ≡ o → r ≡ byTruth t a b → r ≡ branchOf o a b
 branch-by t o x a b r e f h = h ∙ ap (λ (u : Truth). byTruth u a b) (e ∙ ap testedOf f) ∙ sym (branch-tested o a b)
 
+-- whether it came to a Boolean
+abbrev truthIs : Bool → Truth → Bool
+truthIs b truth-of.Fault = false
+truthIs b truth-of.True = b
+truthIs b truth-of.False = not b
+
+came-tested : (b : Bool) (o : Outcome) → cameTo b o ≡ truthIs b (testedOf o)
+came-tested b Fault = refl
+came-tested b (Worked v) = go b (eqKind kind.Boolean (kindOf v)) (truth v)
+  where
+    go : (b k t : Bool) → k && Bool·beq b t ≡ truthIs b (cond k (cond t truth-of.True truth-of.False) truth-of.Fault)
+    go true true true = refl
+    go true true false = refl
+    go false true true = refl
+    go false true false = refl
+    go b false t = refl
+
+pub came-by : (b : Bool) (t : Truth) (o : Outcome) (r : Bool) → t ≡ testedOf o → r ≡ truthIs b t → r ≡ cameTo b o
+came-by b t o r e h = h ∙ ap (truthIs b) e ∙ sym (came-tested b o)
+
 -- ---- a binary operator
 
--- one that is not logical is never decided by its left side
-pub never-decides : (t : Truth) (o : ℕ) → isLogical o ≡ false → decidesBy t o ≡ false
-never-decides truth-of.Fault o h = h
-never-decides truth-of.True o h = go (eqb o or) (eqb o and) h
+-- what came to a Boolean takes its branch
+came : (b : Bool) (o x y : Outcome) → cameTo b o ≡ true → branchOf o x y ≡ cond b x y
+came b Fault x y h = absurd (true≢false (sym h))
+came b (Worked v) x y h = go b (eqKind kind.Boolean (kindOf v)) (truth v) h
   where
-    go : (p q : Bool) → p || q ≡ false → p ≡ false
-    go true q h = h
-    go false q h = refl
-never-decides truth-of.False o h = go (eqb o or) (eqb o and) h
+    go : (b k t : Bool) → k && Bool·beq b t ≡ true → cond k (cond t x y) Fault ≡ cond b x y
+    go true true true h = refl
+    go true true false h = absurd (true≢false (sym h))
+    go false true true h = absurd (true≢false (sym h))
+    go false true false h = refl
+    go b false t h = absurd (true≢false (sym h))
+
+-- and what did not come to it leaves that branch alone
+not-came : (b : Bool) (o a x y : Outcome) → cameTo b o ≡ false → branchOf o (cond b x a) (cond b a x) ≡ branchOf o (cond b y a) (cond b a y)
+not-came b Fault a x y h = refl
+not-came b (Worked v) a x y h = go b (eqKind kind.Boolean (kindOf v)) (truth v) h
   where
-    go : (p q : Bool) → p || q ≡ false → q ≡ false
-    go true q h = absurd (true≢false h)
-    go false q h = h
+    branch : Bool → Bool → Bool → Outcome → Outcome
+    branch b k t z = cond k (cond t (cond b z a) (cond b a z)) Fault
 
-module _ (text : Span → List ℕ) (o : ℕ) (l r : Outcome) where
-  abbrev other : Outcome
-  other = applied text (infixAt o) (l ∷ r ∷ [])
+    go : (b k t : Bool) → k && Bool·beq b t ≡ false → branch b k t x ≡ branch b k t y
+    go true true true h = absurd (true≢false h)
+    go true true false h = refl
+    go false true true h = refl
+    go false true false h = absurd (true≢false h)
+    go b false t h = refl
 
-  abbrev yes : Outcome
-  yes = Worked (Boolean true)
+module _ (text : Span → List ℕ) (found : Found) where
+  -- where the right side is not needed, the left decides alone
+  pub left-decides : (n : Need) (l r : Outcome) → needsRight n l ≡ false → binaryBy n text found l r ≡ booleanOf l
+  left-decides Both l r h = absurd (true≢false h)
+  left-decides UntilTrue l r h = not-came false l (Worked (Boolean true)) (booleanOf r) (Worked (Boolean false)) h
+  left-decides UntilFalse l r h = not-came true l (Worked (Boolean false)) (booleanOf r) (Worked (Boolean true)) h
 
-  abbrev not : Outcome
-  not = Worked (Boolean false)
+  -- and where it is needed, what both come to
+  pub right-decides : (n : Need) (l r : Outcome) → needsRight n l ≡ true → binaryBy n text found l r ≡ withRight n text found l r
+  right-decides Both l r h = refl
+  right-decides UntilTrue l r h = came false l _ _ h
+  right-decides UntilFalse l r h = came true l _ _ h
 
-  -- by its left side, and by which of the two it is
-  abbrev by : Truth → Bool → Bool → Outcome
-  by t p q = cond p (byTruth t yes (booleanOf r)) (cond q (byTruth t (booleanOf r) not) other)
+  -- one that needs both is the operation on them
+  pub both-needed : (n : Need) (l r : Outcome) → T (needsBoth n) → binaryBy n text found l r ≡ applied text found (l ∷ r ∷ [])
+  both-needed Both l r h = refl
+  both-needed UntilTrue l r h = absurd h
+  both-needed UntilFalse l r h = absurd h
 
-  by-tested : binaryOf text o l r ≡ by (testedOf l) (eqb o or) (eqb o and)
-  by-tested = rw (branch-tested l yes (booleanOf r), branch-tested l (booleanOf r) not)
+-- which operators need what
+pub data Told : Found → Need → Type 0 where
+  is-or : Told (Known (op.Logic Or)) UntilTrue
+  is-and : Told (Known (op.Logic And)) UntilFalse
+  is-other : (found : Found) → Told found Both
 
-  abbrev decidedBy : Truth → Bool → Bool → Bool
-  decidedBy truth-of.Fault p q = p || q
-  decidedBy truth-of.True p q = p
-  decidedBy truth-of.False p q = q
-
-  decided-by : (t : Truth) → decidesBy t o ≡ decidedBy t (eqb o or) (eqb o and)
-  decided-by truth-of.Fault = refl
-  decided-by truth-of.True = refl
-  decided-by truth-of.False = refl
-
-  apart : eqb o or ≡ true → eqb o and ≡ true → ⊥
-  apart p q = let a = eqb-true o or p in let b = eqb-true o and q in omega arith
-
-  -- the left side decides
-  pub decided : decidesBy (testedOf l) o ≡ true → booleanOf l ≡ binaryOf text o l r
-  decided h =
-      branch-tested l yes not ∙ go (testedOf l) (eqb o or) (eqb o and) refl refl (sym (decided-by (testedOf l)) ∙ h) ∙ sym by-tested
-    where
-      go : (t : Truth) (p q : Bool) → eqb o or ≡ p → eqb o and ≡ q → decidedBy t p q ≡ true → byTruth t yes not ≡ by t p q
-      go truth-of.Fault true q x y h = refl
-      go truth-of.Fault false true x y h = refl
-      go truth-of.Fault false false x y h = cc
-      go truth-of.True true q x y h = refl
-      go truth-of.True false q x y h = cc
-      go truth-of.False true true x y h = absurd (apart x y)
-      go truth-of.False true false x y h = cc
-      go truth-of.False false true x y h = refl
-      go truth-of.False false false x y h = cc
-
-  -- it does not, and then the right side does
-  pub undecided : decidesBy (testedOf l) o ≡ false → isLogical o ≡ true → booleanOf r ≡ binaryOf text o l r
-  undecided h g = go (testedOf l) (eqb o or) (eqb o and) refl refl (sym (decided-by (testedOf l)) ∙ h) g ∙ sym by-tested
-    where
-      go : (t : Truth) (p q : Bool) → eqb o or ≡ p → eqb o and ≡ q → decidedBy t p q ≡ false → p || q ≡ true → booleanOf r ≡ by t p q
-      go truth-of.Fault true q x y h g = cc
-      go truth-of.Fault false true x y h g = cc
-      go truth-of.Fault false false x y h g = cc
-      go truth-of.True true q x y h g = cc
-      go truth-of.True false true x y h g = refl
-      go truth-of.True false false x y h g = cc
-      go truth-of.False true true x y h g = cc
-      go truth-of.False true false x y h g = refl
-      go truth-of.False false true x y h g = cc
-      go truth-of.False false false x y h g = cc
-
-  -- any other operator
-  pub otherwise : isLogical o ≡ false → applied text (infixAt o) (l ∷ r ∷ []) ≡ binaryOf text o l r
-  otherwise h = go (eqb o or) (eqb o and) h
-    where
-      go : (p q : Bool) → p || q ≡ false → other ≡ cond p (orOf l r) (cond q (andOf l r) other)
-      go true q h = cc
-      go false true h = cc
-      go false false h = refl
+pub told : (found : Found) → Told found (needOf found)
+told (Known (op.Logic Or)) = is-or
+told (Known (op.Logic And)) = is-and
+told (Known (op.Logic Not)) = is-other _
+told (Known (op.Unary f)) = is-other _
+told (Known (op.Binary f)) = is-other _
+told (Known (op.Ternary f)) = is-other _
+told (Known (op.Order f)) = is-other _
+told (Known (op.Equality f)) = is-other _
+told (Known (op.Test f)) = is-other _
+told (Known (op.Constructor f)) = is-other _
+told (Known (op.Product f)) = is-other _
+told (Known (op.Pick m)) = is-other _
+told Unknown = is-other _

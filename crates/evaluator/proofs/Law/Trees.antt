@@ -15,7 +15,7 @@ use Rattle.tree.specs.declared.node.Node.the-variants.{Literal, Variable, Unary
 use Rattle.tree.specs.declared.node.Argument.{Argument}
 use Rattle.tree.specs.declared.node.Argument.the-variants.{Last, Next}
 use Rattle.syntax.proofs.Law.Nodes.{tree-step}
-use Rattle.checker.specs.Operator.{prefixAt}
+use Rattle.checker.specs.Operator.{prefixAt, infixAt}
 use Rattle.evaluator.specs.Eval.{Context, applied, branchOf, binaryOf, evalOf, evalOfAll}
 use Rattle.evaluator.specs.Inner.{placesBy, placesAt, withPlaces}
 use Rattle.evaluator.specs.declared.arguments.Places.{Places}
@@ -29,7 +29,7 @@ abbrev pub evalBy : Context → Node → ℕ → (ℕ → Outcome) → (ℕ → 
 evalBy c (Literal k) p tree arguments = Worked (c .literals p k)
 evalBy c (Variable n) p tree arguments = c .variables p n
 evalBy c (Unary o e) p tree arguments = applied (c .text) (prefixAt o) (tree e ∷ [])
-evalBy c (Binary o l r) p tree arguments = binaryOf (c .text) o (tree l) (tree r)
+evalBy c (Binary o l r) p tree arguments = binaryOf (c .text) (infixAt o) (tree l) (tree r)
 evalBy c (Conditional q t a b) p tree arguments = branchOf (tree t) (tree a) (tree b)
 evalBy c (Bare f) p tree arguments = applied (c .text) (functionAt f) []
 evalBy c (Call f xs) p tree arguments = applied (c .text) (functionAt f) (arguments xs)

@@ -10,7 +10,7 @@ use lib.ListN.{length}
 use Rattle.lexer.specs.Refusal.{refusalAt, Judged, refused}
 use Rattle.lexer.specs.Token.{lexemeAt}
 use Rattle.lexer.specs.Tokens.{Placed, placed, Lexed, tokens, badAt, after, tokensFrom}
-use Rattle.lexer.specs.Scan.{bracketOf, bracketsIn, verdictOf, scanOf}
+use Rattle.lexer.specs.Scan.{mostOpen, bracketOf, bracketsIn, verdictOf, scanOf}
 use Rattle.lexer.specs.Inner.{noneOver, openedAt, changed, nextBrackets, bracketVerdict}
 use Rattle.lexer.specs.declared.token.Token.{Token}
 use Rattle.lexer.specs.declared.token.Lexeme.{Lexeme}
@@ -29,9 +29,9 @@ restVerdict seen (badAt p) = refused (refusalAt 2 p)
 step : (b : Bracket) (seen : Brackets) (t : Token) (at end : ℕ) (ts : List Placed) → seen .over ≡ false → bracketOf t ≡ b →
     restVerdict (changed b seen at) (tokens ts) ≡ bracketsIn (seen .count) (placed t at end ∷ ts)
 unfolding bracketsIn
-step Opens seen t at end ts o e = go (ltb (seen .count) 32) refl
+step Opens seen t at end ts o e = go (ltb (seen .count) mostOpen) refl
   where
-    go : (u : Bool) → ltb (seen .count) 32 ≡ u → restVerdict (openedAt seen at) (tokens ts) ≡ bracketsIn (seen .count) (placed t at end ∷ ts)
+    go : (u : Bool) → ltb (seen .count) mostOpen ≡ u → restVerdict (openedAt seen at) (tokens ts) ≡ bracketsIn (seen .count) (placed t at end ∷ ts)
     go true i = rw (bracketsIn, e, i, add-one (seen .count))
     go false i = rw (bracketsIn, e, i)
 step Closes seen t at end ts o e = rw (bracketsIn, e)

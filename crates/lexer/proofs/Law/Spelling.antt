@@ -9,14 +9,13 @@ use native.Mathlib.Omega.{arith}
 use borrow.Author.Tests.{eqb-true, ne-eqb, eq-eqb, leb-true, leb-false, lt-leb, not-true}
 use lib.Dec.{T, eqb, leb}
 use lib.Ieee.Bits.{is-true}
-use lib.ListN.{length, take, drop, length-append}
-use lib.Seq.{slice, take-nil, take-add, drop-append-seam}
+use lib.ListN.{length, getD, take, drop, length-append}
+use lib.Seq.{slice, slice-empty, take-nil, take-add, drop-append-seam}
 use Rattle.number.specs.Decimal.{isDigit, IsNumber}
-use Rattle.number.specs.Decimal as decimal
-use Rattle.lexer.specs.Bytes.{isQuote, isWordStart, isNameByte, isNameLength, inClass, run, begins, same, placeIn}
+use Rattle.lexer.specs.Bytes.{isSpace, isQuote, isWordStart, isNameByte, isNameLength, inClass, run, begins, same, placeIn}
 use Rattle.lexer.specs.Punctuator.{punctuators, refusedOperators}
 use Rattle.lexer.specs.Token.{Start, quote, dollar, letter, other, startOf}
-use Rattle.lexer.specs.Spelling.{All, IsDecimal, whole, pointed, Spells, number, string, variable, word, punctuator, Refuses, long-number, refused-operator, NoLonger}
+use Rattle.lexer.specs.Spelling.{All, Spells, number, string, variable, word, punctuator, Refuses, long-number, refused-operator, NoLonger, SpacesUpTo}
 use Rattle.lexer.specs.declared.bytes.Class.the-variants.{Inside}
 use Rattle.lexer.specs.declared.token.Token.{Token}
 use Rattle.lexer.proofs.Law.Runs.{run-cons, run-nil}
@@ -81,6 +80,10 @@ slice-is zero t l = rw (sub-zero t)
 slice-is (suc f) zero l = rw (zero-sub (suc f))
 slice-is (suc f) (suc t) [] = sym (take-nil (suc t - suc f))
 slice-is (suc f) (suc t) (b ∷ l) = rw (suc-sub-suc t f) (slice-is f t l)
+
+-- no spaces before a byte that is none
+pub no-spaces : (text : List ℕ) (at : ℕ) → at < length text → isSpace (getD text at 0) ≡ false → SpacesUpTo text at at
+no-spaces text at h e = record { onward = omega arith; inside = h; spaces = subst (All isSpace) (sym (slice-empty at text)) tt; no-more = e }
 
 -- ---- spellings in a list
 
@@ -180,6 +183,9 @@ punctuator-first s q b bs m e = go s e (of-all onlyPunctuator (punctuators ++ re
 
 -- ---- a token that a text begins with
 
+abbrev pub Numeral : List ℕ → Type 0
+Numeral s = (n k d : ℕ) × IsNumber s n k d
+
 -- n bytes of b ∷ bs that are a token and no number, by what it starts with
 abbrev pub Form : Start → ℕ → List ℕ → ℕ → Type 0
 Form quote b bs n = (s q : List ℕ) × All (inClass (Inside b)) s × (s ++ b ∷ q ≡ bs) × (n ≡ length s + 2)
@@ -190,15 +196,11 @@ Form other b bs n = (s q : List ℕ) × List·Memᴰ s (punctuators ++ refusedOp
 starting : (s : Start) (c b n : ℕ) (bs : List ℕ) → startOf c ≡ s → c ≡ b → Form s c bs n → Form (startOf b) b bs n
 starting s c b n bs k e f = subst (λ (x : ℕ). Form (startOf x) x bs n) e (subst (λ (i : Start). Form i c bs n) (sym k) f)
 
-is-number : {s : List ℕ} {n k d : ℕ} → IsDecimal s n k d → IsNumber s
-is-number (whole h) = decimal.whole h
-is-number (pointed w f h d) = decimal.pointed w f h d
-
 punctuator-form : (s q : List ℕ) (b : ℕ) (bs : List ℕ) → List·Memᴰ s (punctuators ++ refusedOperators) → s ++ q ≡ b ∷ bs → Form (startOf b) b bs (length s)
 punctuator-form s q b bs m e = starting other b b (length s) bs (punctuator-first s q b bs m e .1) refl (s, q, m, e, refl)
 
-spelled-form : {p : List ℕ} {t : Token} → Spells p t → (q : List ℕ) (b : ℕ) (bs : List ℕ) → p ++ q ≡ b ∷ bs → IsNumber p ⊎ Form (startOf b) b bs (length p)
-spelled-form (number d h) q b bs e = inl (is-number d)
+spelled-form : {p : List ℕ} {t : Token} → Spells p t → (q : List ℕ) (b : ℕ) (bs : List ℕ) → p ++ q ≡ b ∷ bs → Numeral p ⊎ Form (startOf b) b bs (length p)
+spelled-form (number d h) q b bs e = inl (_, _, _, d)
 spelled-form (string c s h a) q b bs e =
     inr (starting quote c b _ bs (rw (is-true (isQuote c) h)) (head-eq-of-cons-eq e)
     (s, q, a, sym (append-assoc s (c ∷ []) q) ∙ tail-eq-of-cons-eq e, omega (arith, length-append s (c ∷ []))))
@@ -208,14 +210,14 @@ spelled-form (variable s a h) q b bs e =
 spelled-form (word c s h a) q b bs e = inr (starting letter c b _ bs (starts-letter c (is-true _ h)) (head-eq-of-cons-eq e) (s, q, a, tail-eq-of-cons-eq e, refl))
 spelled-form (punctuator {s} m) q b bs e = inr (punctuator-form s q b bs (Memᴰ·append-left refusedOperators m) e)
 
-refused-form : {p : List ℕ} → Refuses p → (q : List ℕ) (b : ℕ) (bs : List ℕ) → p ++ q ≡ b ∷ bs → IsNumber p ⊎ Form (startOf b) b bs (length p)
-refused-form (long-number d h) q b bs e = inl (is-number d)
+refused-form : {p : List ℕ} → Refuses p → (q : List ℕ) (b : ℕ) (bs : List ℕ) → p ++ q ≡ b ∷ bs → Numeral p ⊎ Form (startOf b) b bs (length p)
+refused-form (long-number d h) q b bs e = inl (_, _, _, d)
 refused-form (refused-operator {s} m) q b bs e = inr (punctuator-form s q b bs (Memᴰ·append-right punctuators m) e)
 
 -- so no token is longer than n bytes if no number is, nor any form that the first byte may start
-pub limited : (b : ℕ) (bs : List ℕ) (n : ℕ) → ((p q : List ℕ) → p ++ q ≡ b ∷ bs → IsNumber p → length p ≤ n) → ((m : ℕ) → Form (startOf b) b bs m → m ≤ n) → NoLonger n (b ∷ bs)
+pub limited : (b : ℕ) (bs : List ℕ) (n : ℕ) → ((p q : List ℕ) → p ++ q ≡ b ∷ bs → Numeral p → length p ≤ n) → ((m : ℕ) → Form (startOf b) b bs m → m ≤ n) → NoLonger n (b ∷ bs)
 limited b bs n h k = record { spelled = λ p q t e s. go p q e (spelled-form s q b bs e); refused = λ p q e s. go p q e (refused-form s q b bs e) }
   where
-    go : (p q : List ℕ) → p ++ q ≡ b ∷ bs → IsNumber p ⊎ Form (startOf b) b bs (length p) → length p ≤ n
+    go : (p q : List ℕ) → p ++ q ≡ b ∷ bs → Numeral p ⊎ Form (startOf b) b bs (length p) → length p ≤ n
     go p q e (inl i) = h p q e i
     go p q e (inr f) = k (length p) f

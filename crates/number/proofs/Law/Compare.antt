@@ -1,11 +1,11 @@
 -- What the machine's comparisons of floats say: with zero, with a NaN, and of exact values.
 use mathlib.Core.Path.{_≡_, refl, sym, _∙_, ap, subst}
 use mathlib.Core.Bool.{Bool, true, false, not, _&&_, _||_, Bool·beq}
-use Prim.Native.Nat.{ℕ, zero, suc, _+_, _*_, _^_, _%_, _<_}
+use Prim.Native.Nat.{ℕ, zero, suc, _+_, _*_, _^_, _%_, _≤_, _<_}
 use native.Mathlib.Nat.{mul-right-comm, mul-lt-mul-of-pos-right, mul-le-mul-right, lt-of-mul-lt-mul-right, le-of-mul-le-mul-right, zero-mul, mul-pos, zero-lt-suc, mul-one}
 use native.Mathlib.Omega.{arith}
 use borrow.Author.Tests.{lt-ltb, le-ltb, ltb-true, ltb-false, ne-eqb}
-use lib.Dec.{T, eqb, leb, ltb, eqb·suc-zero, eqb→eq, ltb→lt}
+use lib.Dec.{T, eqb, leb, ltb, eqb·suc-zero, eqb→eq, leb→le, ltb→lt}
 use lib.IntN.{ℤ}
 use lib.Ieee.{Float, nan, inf, fin, binary64, up, down, lt, eq, ne, isNan, fits}
 use lib.Ieee.Compare.{differs-from-itself, nan-differs}
@@ -109,6 +109,7 @@ lt-value (fin false n d) a c m e hc v =
 pub record Fits64 (m : ℕ) (e : ℤ) : Type 0 where
   pub odd : m % 2 ≡ 1
   pub digits : m < 2 ^ 53
+  pub smallest : down e ≤ 2 ^ 1074
   pub limit : m * up e < 2 ^ 1024 * down e
 
 pub fits-says : (s : Bool) (m : ℕ) (e : ℤ) → T (fits binary64 (fin s (suc m) e)) → Fits64 (suc m) e
@@ -122,5 +123,6 @@ fits-says s m e t =
     record {
       odd = eqb→eq (suc m % 2) 1 (and-l a b ab);
       digits = ltb→lt (suc m) (2 ^ 53) (and-r a b ab);
+      smallest = leb→le (down e) (2 ^ 1074) (and-r (a && b) c (and-l (a && b && c) d t));
       limit = ltb→lt (suc m * up e) (2 ^ 1024 * down e) (and-r (a && b && c) d t);
     }

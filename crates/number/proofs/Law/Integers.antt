@@ -1,12 +1,13 @@
 -- What the theorems of Plain.antt lean on: integers and division rounded down.
-use mathlib.Core.Path.{_≡_, refl, sym}
+use mathlib.Core.Path.{_≡_, refl, sym, _∙_, ap}
 use mathlib.Core.Bool.{Bool, true, false, not, cond}
 use Prim.Native.Nat.{ℕ, zero, suc, _+_, _-_, _*_, _/_, _≤_, _<_}
-use native.Mathlib.Nat.{suc-mul, zero-mul, div-add-mod', mod-lt, div-eq-of-lt, zero-div, le-of-suc-le-suc}
+use native.Mathlib.Nat.{suc-mul, zero-mul, mul-zero, sub-add-cancel, div-add-mod', mod-lt, div-eq-of-lt, zero-div, le-of-suc-le-suc}
 use native.Mathlib.Omega.{arith}
 use lib.Dec.{T, ltb, le→leb, lt→ltb, leb→le, ltb→lt}
-use lib.IntN.{ℤ, pos, negsuc, negℤ, natAbs, sucℤ, _+ℤ_, _*ℤ_, negℤ-negℤ, negℤ-sucℤ}
+use lib.IntN.{ℤ, pos, negsuc, negℤ, natAbs, sucℤ, _+ℤ_, _-ℤ_, _*ℤ_, negℤ-negℤ, negℤ-sucℤ, negℤ-+ℤ, +ℤ-negℤ-cancel}
 use lib.Signed.{shrZ, leZ, ltZ, leZ-yes, ltZ-yes}
+use lib.Ieee.{unlike}
 use Rattle.number.specs.Rounding.{signed, Greatest, Least}
 
 -- ---- signs
@@ -29,6 +30,24 @@ pub neg-mul : (z : ℤ) (d : ℕ) → negℤ (z *ℤ pos d) ≡ negℤ z *ℤ po
 neg-mul (pos zero) d = rw (zero-mul d)
 neg-mul (pos (suc n)) d = refl
 neg-mul (negsuc n) d = negℤ-negℤ (pos (suc n * d))
+
+-- the sign of a product and of one factor is that of the other
+pub signed-times : (s t : Bool) (a b : ℕ) → signed (unlike s t) a *ℤ signed t b ≡ signed s (a * b)
+signed-times true false a b = signed-mul true a b
+signed-times false false a b = refl
+signed-times true true a zero = rw (mul-zero a)
+signed-times true true a (suc b) = refl
+signed-times false true zero zero = refl
+signed-times false true zero (suc b) = rw (zero-mul (suc b))
+signed-times false true (suc a) zero = rw (mul-zero (suc a))
+signed-times false true (suc a) (suc b) = refl
+
+pub signed-minus : (s : Bool) (a b : ℕ) → b ≤ a → signed s a -ℤ signed s b ≡ signed s (a - b)
+signed-minus s a b h = ap (λ (z : ℤ). z -ℤ signed s b) (ap (signed s) (sym (sub-add-cancel h)) ∙ sym (sum s)) ∙ +ℤ-negℤ-cancel (signed s (a - b)) (signed s b)
+  where
+    sum : (s : Bool) → signed s (a - b) +ℤ signed s b ≡ signed s (a - b + b)
+    sum true = sym (negℤ-+ℤ (pos (a - b)) (pos b))
+    sum false = refl
 
 -- a number rounded down keeps its sign, or is 0
 pub floor-sign : (s : Bool) (a d : ℕ) → signed s (natAbs (shrZ (signed s a) d)) ≡ shrZ (signed s a) d

@@ -13,7 +13,7 @@ use lib.Seq.{drop-cons, drop-drop}
 use Rattle.number.specs.declared.decimal.Digits.{Digits}
 use Rattle.number.specs.declared.decimal.Decimal.{Decimal}
 use Rattle.number.specs.declared.decimal.Decimal.the-variants.{Nothing, Number, TooLong}
-use Rattle.number.specs.Decimal.{isDigit, digits, wholePart, fraction, joined, withPoint, readAt}
+use Rattle.number.specs.Decimal.{isDigit, digits, wholePart, fraction, joined, withPoint, mostDigits, readAt}
 use Rattle.number.specs.Inner.{pushed, digitsFrom, wholeFrom, fractionFrom, kept}
 
 first : (a b : Bool) → (a && b) ≡ true → a ≡ true
@@ -116,15 +116,15 @@ from-end (b ∷ bs) at n = go (isDigit b) refl (from-end bs (suc at) (pushed n b
 grown : (n b j : ℕ) → n < 10 ^ j → isDigit b ≡ true → 10 * n + (b - 48) < 10 ^ suc j
 grown n b j h e = omega (arith, pow-suc 10 j, leb-true b 57 (last (leb 48 b) (leb b 57) e))
 
-from-value : (bs : List ℕ) (at n j : ℕ) → n < 10 ^ j → j + length (digits bs) ≤ 15 → digitsFrom bs at n .value ≡ joined n (digits bs)
+from-value : (bs : List ℕ) (at n j : ℕ) → n < 10 ^ j → j + length (digits bs) ≤ mostDigits → digitsFrom bs at n .value ≡ joined n (digits bs)
 unfolding digitsFrom digits joined
 from-value [] at n j h k = refl
 from-value (b ∷ bs) at n j h k = go (isDigit b) refl (λ m. from-value bs (suc at) m (suc j))
   where
-    go : (t : Bool) → isDigit b ≡ t → ((m : ℕ) → m < 10 ^ suc j → suc j + length (digits bs) ≤ 15 → digitsFrom bs (suc at) m .value ≡ joined m (digits bs)) →
+    go : (t : Bool) → isDigit b ≡ t → ((m : ℕ) → m < 10 ^ suc j → suc j + length (digits bs) ≤ mostDigits → digitsFrom bs (suc at) m .value ≡ joined m (digits bs)) →
         digitsFrom (b ∷ bs) at n .value ≡ joined n (digits (b ∷ bs))
     go true e ih =
-        let room : j + suc (length (digits bs)) ≤ 15 = rw (digits-more b bs e) at k in
+        let room : j + suc (length (digits bs)) ≤ mostDigits = rw (digits-more b bs e) at k in
         let small : j ≤ 14 = omega arith in
         let below : n < 10 ^ 14 = lt-of-lt-of-le h (pow-le-pow-right (lit< tt) small) in
         rw (from-more b bs at n e, digits-more b bs e, ← pushed-more n b below (leb-true 48 b (first (leb 48 b) (leb b 57) e))) (ih _ (grown n b j h e) (omega arith))
@@ -156,9 +156,9 @@ whole-cases P (b ∷ bs) at p q r = go (eqb b 48) refl
 whole-end : (bs : List ℕ) (at : ℕ) → wholeFrom bs at .end ≡ at + length (wholePart bs)
 whole-end bs at = whole-cases (λ w d. d .end ≡ at + length w) bs at (sym (add-zero at)) (sym (add-one at)) (from-end bs at 0)
 
-whole-value : (bs : List ℕ) (at : ℕ) → length (wholePart bs) ≤ 15 → wholeFrom bs at .value ≡ joined 0 (wholePart bs)
+whole-value : (bs : List ℕ) (at : ℕ) → length (wholePart bs) ≤ mostDigits → wholeFrom bs at .value ≡ joined 0 (wholePart bs)
 unfolding joined
-whole-value bs at = whole-cases (λ w d. length w ≤ 15 → d .value ≡ joined 0 w) bs at (λ h. refl) (λ h. refl) (λ h. from-value bs at 0 0 (lit< tt) (omega arith))
+whole-value bs at = whole-cases (λ w d. length w ≤ mostDigits → d .value ≡ joined 0 w) bs at (λ h. refl) (λ h. refl) (λ h. from-value bs at 0 0 (lit< tt) (omega arith))
 
 pub whole-lt : (bs : List ℕ) → joined 0 (wholePart bs) < 10 ^ length (wholePart bs)
 unfolding joined
@@ -189,10 +189,10 @@ kept-value d at n (x ∷ ds) h e = rw (lt-ltb (suc at) (d .end) (omega arith)) e
 fraction-end : (bs : List ℕ) (at n : ℕ) → fractionFrom bs at n .end ≡ at + withPoint (length (fraction bs))
 fraction-end bs at n = fraction-cases (λ f d. d .end ≡ at + withPoint (length f)) bs at n (sym (add-zero at)) (λ cs. kept-end _ at n (digits cs) (from-end cs (suc at) n))
 
-fraction-value : (bs : List ℕ) (at n j : ℕ) → n < 10 ^ j → j + length (fraction bs) ≤ 15 → fractionFrom bs at n .value ≡ joined n (fraction bs)
+fraction-value : (bs : List ℕ) (at n j : ℕ) → n < 10 ^ j → j + length (fraction bs) ≤ mostDigits → fractionFrom bs at n .value ≡ joined n (fraction bs)
 unfolding joined
 fraction-value bs at n j h =
-    fraction-cases (λ f d. j + length f ≤ 15 → d .value ≡ joined n f) bs at n (λ k. refl)
+    fraction-cases (λ f d. j + length f ≤ mostDigits → d .value ≡ joined n f) bs at n (λ k. refl)
     (λ cs k. kept-value _ at n (digits cs) (from-end cs (suc at) n) (from-value cs (suc at) n j h k))
 
 pub fraction-lt : (bs : List ℕ) (n j : ℕ) → n < 10 ^ j → joined n (fraction bs) < 10 ^ (j + length (fraction bs))
@@ -238,7 +238,7 @@ module _ (text : List ℕ) (at : ℕ) (whole all : Digits) (places : ℕ)
   places-are : places ≡ length (fractionAt text at)
   places-are = ep ∙ ap (λ (i : ℕ). i - whole .end - 1) end-is ∙ no-point (whole .end) (length (fractionAt text at))
 
-  value-is : length (wholeAt text at) + length (fractionAt text at) ≤ 15 → all .value ≡ joined 0 (wholeAt text at ++ fractionAt text at)
+  value-is : length (wholeAt text at) + length (fractionAt text at) ≤ mostDigits → all .value ≡ joined 0 (wholeAt text at ++ fractionAt text at)
   value-is h =
       let first : whole .value ≡ joined 0 (wholeAt text at) = ap (λ d. d .value) ew ∙ whole-value (drop at text) at (omega arith) in
       ap (λ d. d .value) all-is
@@ -246,38 +246,38 @@ module _ (text : List ℕ) (at : ℕ) (whole all : Digits) (places : ℕ)
       ∙ fraction-value _ (whole .end) (joined 0 (wholeAt text at)) (length (wholeAt text at)) (whole-lt (drop at text)) h
       ∙ sym (joined-append 0 (wholeAt text at) (fractionAt text at))
 
-  pub read-number : at < whole .end → whole .end - at + places ≤ 15 → Number (all .end) (all .value) places ≡ readAt text at
+  pub read-number : at < whole .end → whole .end - at + places ≤ mostDigits → Number (all .end) (all .value) places ≡ readAt text at
   unfolding readAt
   read-number h k =
-      let few : length (wholeAt text at) + length (fractionAt text at) ≤ 15 = omega (arith, point, places-are) in
+      let few : length (wholeAt text at) + length (fractionAt text at) ≤ mostDigits = omega (arith, point, places-are) in
       let some : length (wholeAt text at) ≡ 0 → ⊥ = λ z. omega (arith, point) in
-      rw (ne-eqb (length (wholeAt text at)) 0 some, le-leb (length (wholeAt text at) + length (fractionAt text at)) 15 few)
+      rw (ne-eqb (length (wholeAt text at)) 0 some, le-leb (length (wholeAt text at) + length (fractionAt text at)) mostDigits few)
       (λ i. Number (end-at i) (value-is few i) (places-are i))
 
-  pub read-long : at < whole .end → 15 < whole .end - at + places → TooLong (all .end) ≡ readAt text at
+  pub read-long : at < whole .end → mostDigits < whole .end - at + places → TooLong (all .end) ≡ readAt text at
   unfolding readAt
   read-long h k =
-      let many : 15 < length (wholeAt text at) + length (fractionAt text at) = omega (arith, point, places-are) in
+      let many : mostDigits < length (wholeAt text at) + length (fractionAt text at) = omega (arith, point, places-are) in
       let some : length (wholeAt text at) ≡ 0 → ⊥ = λ z. omega (arith, point) in
-      rw (ne-eqb (length (wholeAt text at)) 0 some, lt-leb (length (wholeAt text at) + length (fractionAt text at)) 15 many)
+      rw (ne-eqb (length (wholeAt text at)) 0 some, lt-leb (length (wholeAt text at) + length (fractionAt text at)) mostDigits many)
       (ap TooLong end-at)
 
 -- what `readAt` gives, by its tests
 pub read-cases : (P : Decimal → Type 0) (text : List ℕ) (at : ℕ) → (length (wholeAt text at) ≡ 0 → P Nothing) →
-    (0 < length (wholeAt text at) → length (wholeAt text at) + length (fractionAt text at) ≤ 15 →
+    (0 < length (wholeAt text at) → length (wholeAt text at) + length (fractionAt text at) ≤ mostDigits →
     P (Number (at + length (wholeAt text at) + withPoint (length (fractionAt text at))) (joined 0 (wholeAt text at ++ fractionAt text at)) (length (fractionAt text at)))) →
-    (0 < length (wholeAt text at) → 15 < length (wholeAt text at) + length (fractionAt text at) → P (TooLong (at + length (wholeAt text at) + withPoint (length (fractionAt text at))))) →
+    (0 < length (wholeAt text at) → mostDigits < length (wholeAt text at) + length (fractionAt text at) → P (TooLong (at + length (wholeAt text at) + withPoint (length (fractionAt text at))))) →
     P (readAt text at)
 unfolding readAt
-read-cases P text at p q r = go (eqb (length (wholeAt text at)) 0) (leb (length (wholeAt text at) + length (fractionAt text at)) 15) refl refl
+read-cases P text at p q r = go (eqb (length (wholeAt text at)) 0) (leb (length (wholeAt text at) + length (fractionAt text at)) mostDigits) refl refl
   where
     some : eqb (length (wholeAt text at)) 0 ≡ false → 0 < length (wholeAt text at)
     some e = pos-of-ne-zero (eqb-false _ 0 e)
 
-    go : (t u : Bool) → eqb (length (wholeAt text at)) 0 ≡ t → leb (length (wholeAt text at) + length (fractionAt text at)) 15 ≡ u → P (readAt text at)
+    go : (t u : Bool) → eqb (length (wholeAt text at)) 0 ≡ t → leb (length (wholeAt text at) + length (fractionAt text at)) mostDigits ≡ u → P (readAt text at)
     go true u e k = rw e (p (eqb-true _ 0 e))
-    go false true e k = rw (e, k) (q (some e) (leb-true _ 15 k))
-    go false false e k = rw (e, k) (r (some e) (leb-false _ 15 k))
+    go false true e k = rw (e, k) (q (some e) (leb-true _ mostDigits k))
+    go false false e k = rw (e, k) (r (some e) (leb-false _ mostDigits k))
 
 -- ---- what `readAt` finds lies in the text
 

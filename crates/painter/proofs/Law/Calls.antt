@@ -2,7 +2,7 @@
 use mathlib.Core.Path.{_≡_, refl, sym, _∙_, ap, subst}
 use mathlib.Core.Bool.{Bool, true, false, cond, false≢true}
 use mathlib.Core.List.{List, []}
-use Prim.Native.Nat.{ℕ, _<_, _≤_, min}
+use Prim.Native.Nat.{ℕ, _<_, _≤_}
 use native.Mathlib.Omega.{arith}
 use borrow.Author.Tests.{lt-ltb, le-ltb, ltb-false}
 use lib.Dec.{ltb}
@@ -28,15 +28,16 @@ use Rattle.feature.specs.Feature.{Values, complete, broken, setsOf, featureOf, 
 use Rattle.feature.specs.Feature as feature
 use Rattle.feature.specs.declared.feature.Feature.{Feature}
 use Rattle.feature.specs.declared.feature.Feature.the-variants.{Refused, Read}
-use Rattle.output.specs.Line.{front, refusedFeature}
+use Rattle.output.specs.Line.{front}
 use Rattle.output.proofs.Law.Lines.{front-within}
-use Rattle.painter.specs.Paint.{Written, onValues, givenAnswer, givenLine, drawnAnswer, answerOf, featured, leastBytes, shortBuffer, paintedOf, outAfter, roomAfter, printedBy}
+use Rattle.painter.specs.Paint.{Written, onValues, givenAnswer, givenLine, drawnAnswer, answerOf, featured, leastBytes, shortBuffer, paintedOf, outAfter, roomAfter, featureLine}
 use Rattle.painter.specs.declared.answer.Given.{Given}
 use Rattle.painter.specs.declared.answer.Drawn.{Drawn}
 use Rattle.painter.specs.declared.answer.Drawn.the-variants as drawn
 use Rattle.painter.specs.declared.answer.Painted.{Painted}
 use Rattle.painter.specs.declared.answer.Painted.the-variants as painted
-use Rattle.painter.specs.Applied.{Source, source, Arrays, allDefined, withValues, givenAt, enteredBy, givenUnder, definedBy, arraysAfter, lineWritten, writtenBy, appliedOf, appliedArrays}
+use Rattle.painter.specs.Applied.{Source, source, compiled, Arrays, allDefined, withValues, givenAt, enteredBy, givenUnder, definedBy, arraysAfter, lineWritten, writtenBy, appliedOf, appliedArrays}
+use Rattle.painter.proofs.Order.{accepted-first, style-given}
 use Rattle.painter.proofs.Law.Drawn.{given-is, applied-is}
 
 -- ---- a feature that was read
@@ -92,32 +93,19 @@ module _ (x : Source) (number : ℕ) (out : List ℕ) (a : Arrays) where
 
 -- ---- what is printed
 
-module _ (a : Painted) (number : ℕ) (out : List ℕ) where
-  pub printed-painted : (given : Given) (bytes : ℕ) → a ≡ painted.Painted given bytes → (r : ℕ) → r ≡ min bytes (length out) →
-      ((out, r) ≡ printedBy (answerOf a) number out) × (r ≤ length out)
-  printed-painted given bytes e r h = ((λ i. (out, h i)) ∙ ap (λ (a : Painted). printedBy (answerOf a) number out) (sym e), omega (arith, h))
-
-  pub printed-refused : (x : LineRefusal) → a ≡ painted.Refused x → (out′ : List ℕ) (r : ℕ) →
-      (out′, r) ≡ front out (refusedFeature number (x .refusal .number) (x .refusal .place)) → ((out′, r) ≡ printedBy (answerOf a) number out) × (r ≤ length out)
-  printed-refused x e out′ r h = (h ∙ ap (λ (a : Painted). printedBy (answerOf a) number out) (sym e), front-within _ _ h)
+module _ (d : Drawn) (number : ℕ) (out : List ℕ) where
+  pub printed : (d′ : Drawn) → d ≡ d′ → (out′ : List ℕ) (r : ℕ) → (out′, r) ≡ front out (featureLine number (drawnAnswer d′)) →
+      ((out′, r) ≡ front out (featureLine number (drawnAnswer d))) × (r ≤ length out)
+  printed d′ e out′ r h = (h ∙ ap (λ (d : Drawn). front out (featureLine number (drawnAnswer d))) (sym e), front-within _ _ h)
 
 -- ---- a head that is accepted
 
 -- it gives a style, and the room and the head's size were right
 pub accepted-style : (slots : ℕ) (head : List ℕ) → checkedOf slots head ≡ accepted tt → (s : Style) × (styleOf slots head ≡ accepted s) × (headOf head ≡ accepted s) × (roomSize ≤ slots) × (length head ≤ headSize)
-unfolding styleOf
-accepted-style slots head = go (ltb slots roomSize) refl (ltb headSize (length head)) refl (headOf head)
-  where
-    by : Bool → Bool → Answer Style → Answer Style
-    by t u x = cond t shortRoom (cond u longHead x)
-
-    go : (t : Bool) → ltb slots roomSize ≡ t → (u : Bool) → ltb headSize (length head) ≡ u → (x : Answer Style) →
-        _≡_ {A = Answer (Unit {0})} (onAccepted (by t u x) (λ s. accepted tt)) (accepted tt) →
-        (s : Style) × (by t u x ≡ accepted s) × (x ≡ accepted s) × (roomSize ≤ slots) × (length head ≤ headSize)
-    go true f u g x e = absurd (false≢true (ap isAccepted e))
-    go false f true g x e = absurd (false≢true (ap isAccepted e))
-    go false f false g (refusal n r) e = absurd (false≢true (ap isAccepted e))
-    go false f false g (accepted s) e = (s, refl, refl, ltb-false slots roomSize f, ltb-false headSize (length head) g)
+accepted-style slots head ok =
+    let (s, is, _) = accepted-first (λ s. accepted tt) tt (styleOf slots head) ok in
+    let (enough, small, given) = style-given slots head s is in
+    (s, is, given, enough, small)
 
 module _ (head room plan : List ℕ) (ok : checkedOf (length room) head ≡ accepted tt) where
   abbrev given-style : Style
@@ -151,20 +139,17 @@ module _ (head room plan : List ℕ) (ok : checkedOf (length room) head ≡ acce
       (compiled-holds head room given-style is small enough)
 
   module _ (number : ℕ) (feature : List ℕ) (a : Arrays) (spans-size : length (a .0) ≡ spansSize) (floats-size : length (a .1) ≡ floatsSize) where
-    abbrev compiled : Source
-    compiled = source head feature trees planned
-
     fits : length head ≤ length trees
     fits = omega (arith, size, enough, small)
 
     -- they give what the style gives, whatever the arrays held before
-    pub compiled-given : givenUnder compiled number a ≡ onAccepted (styleOf (length room) head) (λ s. givenAnswer s number feature)
+    pub compiled-given : givenUnder (compiled head room plan feature) number a ≡ onAccepted (styleOf (length room) head) (λ s. givenAnswer s number feature)
     compiled-given =
         given-is head feature trees planned fits given-style held (accepted-stand head given-style is) number a spans-size floats-size
         ∙ ap (λ x. onAccepted x (λ s. givenAnswer s number feature)) (sym styled)
 
     pub compiled-applied : (out : List ℕ) → leastBytes ≤ length out →
-        (let answer = paintedOf (length out) (length room) head number feature in appliedOf compiled number out a ≡ (answer, outAfter answer number out))
+        (let answer = paintedOf (length out) (length room) head number feature in appliedOf (compiled head room plan feature) number out a ≡ (answer, outAfter answer number out))
     unfolding paintedOf
     compiled-applied out h =
         applied-is head feature trees planned fits given-style held (accepted-stand head given-style is) number a spans-size floats-size out h

@@ -35,9 +35,8 @@ use Rattle.style.specs.Holds.{Each, Held, StyleHeld, Holds}
 use Rattle.style.specs.Accepted.{Stands, AllStand}
 use Rattle.style.proofs.Law.Ladder.{taken, passed}
 use Rattle.feature.specs.Feature.{AllOf}
-use Rattle.painter.specs.Meaning.{propertyValue, propertyOutcome, expressionAt, definedOutcome, definesText, outcomeOf, valueOf}
+use Rattle.painter.specs.Meaning.{propertyValue, propertyOutcome, expressionAt, definedOutcome, definesText, nameOutcome, outcomeOf, valueOf}
 use Rattle.painter.specs.Paint.{schemaOf}
-use Rattle.painter.specs.Demand.{named}
 use Rattle.painter.specs.Applied.{Arrays, source, placedValue, rowValue, definedFrom}
 use Rattle.painter.proofs.Sound.{stands-sound, property-conforms}
 use Rattle.feature.proofs.Own.{AllOwn}
@@ -217,7 +216,7 @@ module _ (head feature room plan : List ℕ) (fits : length head ≤ length room
       style-alike : AlikeOutcomes (Together head feature (toOf row) whole) styleOutcome (outcomeOf s feature vs e)
       unfolding outcomeOf
       style-alike =
-          expression-alike head feature (fromOf row) (toOf row) e (length (definesText (s .defines))) whole (held .0 .is) (held .0 .inside) lies-behind (λ x. Worked (styleNames x)) (named s feature vs e)
+          expression-alike head feature (fromOf row) (toOf row) e (length (definesText (s .defines))) whole (held .0 .is) (held .0 .inside) lies-behind (λ x. Worked (styleNames x)) (nameOutcome s feature vs e)
           (λ x. name-alike (toOf row) whole (e .text) x 0 0 (s .defines) refl (λ k l h. omega (arith, held .1 k (omega arith), held .0 .order)) (holds .expressed .defines) (stand .defines))
 
       row-alike : rowValue (source head feature room plan) (spans, floats) row ≡ valueIn styleOutcome

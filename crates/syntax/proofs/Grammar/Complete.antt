@@ -57,6 +57,7 @@ use Rattle.syntax.specs.Parser.{
   argumentsFrom,
 }
 use Rattle.syntax.specs.declared.symbol.Symbol.{Symbol}
+use Rattle.syntax.proofs.Law.Operators.{prefix-is}
 use Rattle.syntax.proofs.Law.Steps.{Gives, given, then-part}
 use Rattle.syntax.proofs.Law.Levels.{prefix-operator}
 use Rattle.syntax.proofs.Grammar.Lists.{Parser, uncons, made, by-number}
@@ -142,7 +143,7 @@ from-number : {lo : ℕ} (x : Symbol) {s : List Symbol} (n : ℕ) → is n x ≡
 from-number x n h l i = let e = eqb-true (x .number) n h in starts x (omega arith) (λ j. i (sym e ∙ j))
 
 no-operator : {lo : ℕ} {xs : List Symbol} (r : List Symbol) → 16 ≤ lo → Starts lo xs → Misses isPrefix (xs ++ r)
-no-operator r l (starts x h i) = simp (ne-eqb (x .number) 10 (λ e. omega arith), ne-eqb (x .number) 11 (λ e. omega arith), ne-eqb (x .number) 15 (λ e. omega arith))
+no-operator r l (starts x h i) = simp (prefix-is x, ne-eqb (x .number) 10 (λ e. omega arith), ne-eqb (x .number) 11 (λ e. omega arith), ne-eqb (x .number) 15 (λ e. omega arith))
 
 not-closed : {lo : ℕ} {xs : List Symbol} (r : List Symbol) → Starts lo xs → Misses (is closeRound) (xs ++ r)
 not-closed r (starts x h i) = ne-eqb (x .number) closeRound i

@@ -14,6 +14,7 @@ use Rattle.lexer.specs.Scan.{scanOf}
 use Rattle.lexer.specs.declared.refusal.Refusal.{Refusal}
 use Rattle.lexer.proofs.Refusals.{With, scan-says}
 use Rattle.tree.specs.Tree.{Tree}
+use Rattle.syntax.specs.Sizes.{mostBytes, mostHeight}
 use Rattle.syntax.specs.Grammar.{expression, Derives}
 use Rattle.syntax.specs.Place.{symbolsOf, RefusedAt, Scanned}
 use Rattle.syntax.specs.Parser.{Result, part, spent, parseOf}
@@ -42,13 +43,13 @@ module _ (text : List ℕ) where
 
   -- 4 comes from the parser's refusal alone
   four-of : (a : Result Symbol Tree) (p : ℕ) → parseOf text ≡ a → byGrammar a text ≡ refused (refusalAt 4 p) → (x : Symbol) × (parseOf text ≡ parser.refused x) × (x .at ≡ p)
-  four-of (part e x) p h k = absurd (height-number (ltb 64 (heightOf e)) e (ap numberOf k))
+  four-of (part e x) p h k = absurd (height-number (ltb mostHeight (heightOf e)) e (ap numberOf k))
   four-of (parser.refused x) p h k = (x, h, ap placeOf k)
   four-of spent p h k = absurd (never-spent text h)
 
   -- a tree comes from the parser's part alone
   fine-of : (a : Result Symbol Tree) (e : Tree) → parseOf text ≡ a → byGrammar a text ≡ fine e → (x : Symbol) × (parseOf text ≡ part e x)
-  fine-of (part e′ x) e h k = (x, h ∙ ap (λ e. part e x) (heighted (ltb 64 (heightOf e′)) e′ k))
+  fine-of (part e′ x) e h k = (x, h ∙ ap (λ e. part e x) (heighted (ltb mostHeight (heightOf e′)) e′ k))
     where
       named : (l : Leftmost) (e′ : Tree) → byNames l e′ ≡ fine e → e′ ≡ e
       named (At p) e′ k = cc
@@ -62,23 +63,23 @@ module _ (text : List ℕ) where
 
   -- what is not refused with 1, 2 or 3 is judged by the grammar
   module _ (j : Judged Tree) (one : numberOf j ≡ 1 → ⊥) (two : numberOf j ≡ 2 → ⊥) (three : numberOf j ≡ 3 → ⊥) where
-    by-verdict : length text ≤ 1024 → (v : Judged (Unit {0})) → scanOf text ≡ v → byTokens v text ≡ j → ((p : ℕ) × (v ≡ refused (refusalAt 2 p))) ⊎ ((ts : List Placed) × (tokensOf text ≡ tokens ts) × With 3 v) →
+    by-verdict : length text ≤ mostBytes → (v : Judged (Unit {0})) → scanOf text ≡ v → byTokens v text ≡ j → ((p : ℕ) × (v ≡ refused (refusalAt 2 p))) ⊎ ((ts : List Placed) × (tokensOf text ≡ tokens ts) × With 3 v) →
         (ts : List Placed) × Scanned text ts × (byGrammar (parseOf text) text ≡ j)
     by-verdict l v e k (inl (p, i)) = absurd (two (ap numberOf (sym k ∙ ap (λ v. byTokens v text) i)))
     by-verdict l (fine tt) e k (inr (ts, i, w)) = (ts, record { short = l; fine = e; lexed = i }, k)
     by-verdict l (refused r) e k (inr (ts, i, w)) = absurd (three (sym (ap numberOf k) ∙ w))
 
-    by-size : (b : Bool) → ltb 1024 (length text) ≡ b → bySize b text ≡ j → (ts : List Placed) × Scanned text ts × (byGrammar (parseOf text) text ≡ j)
+    by-size : (b : Bool) → ltb mostBytes (length text) ≡ b → bySize b text ≡ j → (ts : List Placed) × Scanned text ts × (byGrammar (parseOf text) text ≡ j)
     by-size true e k = absurd (one (sym (ap numberOf k)))
-    by-size false e k = by-verdict (ltb-false 1024 (length text) e) (scanOf text) refl k (scan-says text)
+    by-size false e k = by-verdict (ltb-false mostBytes (length text) e) (scanOf text) refl k (scan-says text)
 
     by-grammar : judgedOf text ≡ j → (ts : List Placed) × Scanned text ts × (byGrammar (parseOf text) text ≡ j)
     unfolding judgedOf
-    by-grammar h = by-size (ltb 1024 (length text)) refl h
+    by-grammar h = by-size (ltb mostBytes (length text)) refl h
 
   scanned-judged : {ts : List Placed} → Scanned text ts → judgedOf text ≡ byGrammar (parseOf text) text
   unfolding judgedOf
-  scanned-judged s = ap (λ b. bySize b text) (le-ltb 1024 (length text) (s .short)) ∙ ap (λ v. byTokens v text) (s .fine)
+  scanned-judged s = ap (λ b. bySize b text) (le-ltb mostBytes (length text) (s .short)) ∙ ap (λ v. byTokens v text) (s .fine)
 
   -- A text is refused with 4 at a place exactly if the checks before have passed and the grammar refuses its tokens there.
   pub judged-four : (p : ℕ) → (judgedOf text ≡ refused (refusalAt 4 p)) ↔ ((ts : List Placed) × Scanned text ts × RefusedAt text ts p)
@@ -95,7 +96,7 @@ module _ (text : List ℕ) where
           scanned-judged s ∙ ap (λ a. byGrammar a text) i ∙ ap (λ (p : ℕ). refused (refusalAt 4 p)) q
 
   -- A right expression is judged further by its tree, for 5 and 6: nothing else of the parser's definition counts.
-  pub right-judged : (ts : List Placed) (e : Tree) → Scanned text ts → Derives text expression (symbolsOf ts) e → judgedOf text ≡ byHeight (ltb 64 (heightOf e)) text e
+  pub right-judged : (ts : List Placed) (e : Tree) → Scanned text ts → Derives text expression (symbolsOf ts) e → judgedOf text ≡ byHeight (ltb mostHeight (heightOf e)) text e
   right-judged ts e s d = let (x, i) = accepts text ts (s .lexed) e .1 d in scanned-judged s ∙ ap (λ a. byGrammar a text) i
 
   -- The tree of a fine text is the one that the grammar derives of its tokens.

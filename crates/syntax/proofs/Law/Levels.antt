@@ -1,5 +1,5 @@
 -- The levels of the grammar, path by path: what the callees gave, and the tests that were passed, give what the caller says.
-use mathlib.Core.Path.{_≡_, refl, ap, sym, subst}
+use mathlib.Core.Path.{_≡_, refl, ap, sym, subst, _∙_}
 use mathlib.Core.List.{List}
 use mathlib.Core.Bool.{Bool, true, false, cond, _&&_, _||_, false≢true}
 use Prim.Native.Nat.{ℕ, zero, suc, _+_, _<_, _≤_}
@@ -8,7 +8,7 @@ use lib.Dec.{eqb, ltb, leb}
 use lib.ListN.{length}
 use borrow.Author.Tests.{eq-eqb, ne-eqb, eqb-true, ltb-true, ltb-false, le-leb, lt-leb}
 use Rattle.tree.specs.Tree.{Tree, literal, variable, unary, binary, bare, call, last, next}
-use Rattle.tree.specs.Slots.{Shape, between, root, lay, put, join, shapeOf, shapesOf, operatorTag, functionTag, variableTag, commaTag}
+use Rattle.tree.specs.Slots.{Shape, between, root, lay, put, join, shapeOf, shapesOf, questionTag, colonTag, operatorTag, functionTag, variableTag, commaTag}
 use Rattle.syntax.specs.Symbol.{symbolAt, is, question, colon, comma, closeRound, end, isLiteral, formOf, isPrefix, precedenceOf, functionOf}
 use Rattle.syntax.specs.Parser.{
   Result,
@@ -58,6 +58,7 @@ use Rattle.syntax.specs.declared.symbol.Symbol.{Symbol}
 use Rattle.syntax.specs.declared.parse.Parsed.{Parsed}
 use Rattle.syntax.specs.declared.parse.Parsed.the-variants as parsed
 use Rattle.syntax.proofs.Law.Symbols.{sound-at, later-at, in-range}
+use Rattle.syntax.proofs.Law.Operators.{prefix-is, operator-none}
 use Rattle.syntax.proofs.Law.Steps.{Gives, given, then-part, then-bad, asks-yes, asks-no, after-that, at-once}
 use Rattle.syntax.proofs.Law.Parts.{ahead-tree, says-tree, says-bad, goes-on, stepped, ahead-wider, same, with-part, paired}
 
@@ -134,7 +135,7 @@ module _ {A B C : Type 0} {shapeA : A → Shape} {shapeB : B → Shape} {shapeC 
           (then-part _ (after-that f (given (k .is))) at-once))) .gives))
 
 module _ (text : List ℕ) where
-  pub chosen-shape : (p : ℕ) (c : Tree) (b : Branches) → shapeOf (chosen p c b) ≡ between p (operatorTag 0) (shapeOf c) (branchesShape b)
+  pub chosen-shape : (p : ℕ) (c : Tree) (b : Branches) → shapeOf (chosen p c b) ≡ between p questionTag (shapeOf c) (branchesShape b)
   chosen-shape p c (branches q a b) = refl
 
   pub conditionals-step : (g : ℕ) → expressionFrom text (inText text) (suc g) ≡
@@ -150,7 +151,7 @@ module _ (text : List ℕ) where
     none = part;
     node = chosen;
     mark = question;
-    tag = operatorTag 0;
+    tag = questionTag;
     c₁ = 11;
     c₂ = 13;
     c = 12;
@@ -174,7 +175,7 @@ module _ (text : List ℕ) where
     none = λ a. refused;
     node = branches;
     mark = colon;
-    tag = operatorTag 1;
+    tag = colonTag;
     c₁ = 12;
     c₂ = 12;
     c = 13;
@@ -256,22 +257,6 @@ module _ {text w v : List ℕ} (k j : ℕ) (x : Symbol) {r : Parsed} (e : k ≡ 
   pub binary-goes : {at : ℕ} {y : Symbol} {u : List ℕ} {r′ : Parsed} → r ≡ parsed.Tree at y → TailBy j text v u at y r′ → LevelBy k text w u x r′
   binary-goes {u = u} {r′ = r′} i t = subst (λ k. LevelBy k text w u x r′) (sym e) (level-goes j x h i t)
 
--- only binary operators have a level
-operator-none : (n : ℕ) → 14 < n → precedenceOf n ≡ 0
-unfolding precedenceOf
-operator-none n h = simp (
-  le-leb 12 n (omega arith),
-  lt-leb n 14 (omega arith),
-  le-leb 10 n (omega arith),
-  lt-leb n 11 (omega arith),
-  le-leb 6 n (omega arith),
-  lt-leb n 9 (omega arith),
-  le-leb 4 n (omega arith),
-  lt-leb n 5 (omega arith),
-  ne-eqb n 3 (omega arith),
-  ne-eqb n 2 (omega arith),
-)
-
 pub operator-number : (n k : ℕ) → precedenceOf n ≡ suc k → (1 < n) × (n < 15)
 unfolding precedenceOf
 operator-number zero k e = absurd (omega arith)
@@ -335,7 +320,7 @@ one-of n false false true h i j e = omega (arith, eqb-true n 15 j)
 one-of n false false false h i j e = absurd (false≢true e)
 
 pub prefix-operator : (x : Symbol) → isPrefix x ≡ true → (8 < x .number) × (x .number < 16)
-prefix-operator x e = one-of (x .number) (eqb (x .number) 10) (eqb (x .number) 11) (eqb (x .number) 15) refl refl refl e
+prefix-operator x e = one-of (x .number) (eqb (x .number) 10) (eqb (x .number) 11) (eqb (x .number) 15) refl refl refl (sym (prefix-is x) ∙ e)
 
 module _ {text w v : List ℕ} (x : Symbol) {r : Parsed} where
   pub unary-none : isPrefix x ≡ false → PostfixBy text w v x r → UnaryBy text w v x r

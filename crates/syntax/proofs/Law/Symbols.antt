@@ -3,7 +3,7 @@ use mathlib.Core.Path.{_≡_, refl, ap, sym, subst, _∙_}
 use mathlib.Core.Bool.{true, cond, _&&_, and-eq-true-iff}
 use mathlib.Core.List.{List, [], _∷_}
 use Prim.Native.Nat.{ℕ, suc, _-_, _%_, _<_, _≤_}
-use native.Mathlib.Nat.{mod-lt, mod-eq-of-lt, lt-of-le-of-lt}
+use native.Mathlib.Nat.{mod-lt, mod-eq-of-lt}
 use native.Mathlib.Omega.{arith}
 use borrow.Author.Tests.{ltb-true, leb-true, eqb-true}
 use lib.Dec.{eqb, ltb, leb, lit<, lit≤}
@@ -22,6 +22,7 @@ use Rattle.lexer.proofs.Law.Runs.{by-test}
 use Rattle.lexer.proofs.Law.Spelling.{slice-is}
 use Rattle.lexer.proofs.Munch.{munch}
 use Rattle.value.specs.Name.{functionNames, memberNames, memberIndex}
+use Rattle.tree.specs.Slots.{tags, functionTag, questionTag, pickTag}
 use Rattle.syntax.specs.Symbol.{numberOf, symbolOf, symbolAt, dot, openSquare, closeSquare, is, isWord, isIndex, functionOf, memberOf}
 use Rattle.syntax.specs.Inner.{Sound, Follows, memberPickOf, indexPickOf, pickingOf}
 use Rattle.syntax.specs.declared.symbol.Symbol.{Symbol}
@@ -109,16 +110,16 @@ place-most : (ss : List (List ℕ)) (s : List ℕ) → placeIn ss s ≤ length s
 place-most [] s = omega arith
 place-most (t ∷ ss) s = by-test (λ (n : ℕ). n ≤ suc (length ss)) (same s t) (λ e. omega arith) (λ e. omega (arith, place-most ss s))
 
-pub function-known : (text : List ℕ) (x : Symbol) → functionOf text x < 24
-function-known text x = lt-of-le-of-lt (place-most functionNames (slice (x .at) (x .end) text)) (lit< tt)
+pub function-known : (text : List ℕ) (x : Symbol) → functionTag (functionOf text x) < questionTag
+function-known text x = let h : functionOf text x ≤ 20 = place-most functionNames (slice (x .at) (x .end) text) in omega arith
 
 kept : (n m k : ℕ) → n ≡ m → m < k → k ≤ 256 → n % 256 ≡ m
 kept n m k e h l = mod-eq-of-lt (omega arith) ∙ e
 
-index-below : (n : ℕ) → cond (ltb n 8) (n % 4) 4 < 8
-index-below n = by-test (λ (m : ℕ). m < 8) (ltb n 8) (λ e. omega (arith, mod-lt n {m = 4} (lit< tt))) (λ e. omega arith)
+index-below : (n : ℕ) → pickTag (cond (ltb n 8) (n % 4) 4) < tags
+index-below n = by-test (λ (m : ℕ). pickTag m < tags) (ltb n 8) (λ e. omega (arith, mod-lt n {m = 4} (lit< tt))) (λ e. omega arith)
 
-pub member-known : (text : List ℕ) (x : Symbol) → memberOf text x < 8
+pub member-known : (text : List ℕ) (x : Symbol) → pickTag (memberOf text x) < tags
 unfolding memberIndex
 member-known text x = index-below (placeIn memberNames (slice (x .at) (x .end) text))
 
@@ -131,10 +132,10 @@ module _ (text : List ℕ) (x : Symbol) where
   part-is = sym (slice-is (x .at) (x .end) text)
 
   pub function-is : (n : ℕ) → n ≡ placeIn functionNames part → n % 256 ≡ functionOf text x
-  function-is n e = kept n (functionOf text x) 24 (e ∙ ap (placeIn functionNames) part-is) (function-known text x) (lit≤ tt)
+  function-is n e = kept n (functionOf text x) 24 (e ∙ ap (placeIn functionNames) part-is) (omega (arith, function-known text x)) (lit≤ tt)
 
   pub member-is : (n : ℕ) → n ≡ memberIndex part → n % 256 ≡ memberOf text x
-  member-is n e = kept n (memberOf text x) 8 (e ∙ ap memberIndex part-is) (member-known text x) (lit≤ tt)
+  member-is n e = kept n (memberOf text x) 8 (e ∙ ap memberIndex part-is) (omega (arith, member-known text x)) (lit≤ tt)
 
 -- ---- tests
 

@@ -17,6 +17,7 @@ use Rattle.tree.specs.Node.{treeAt}
 use Rattle.tree.specs.Fits.{pruned}
 use Rattle.tree.proofs.Law.Places.{root-shape, length-lay}
 use Rattle.tree.proofs.Back.{stored}
+use Rattle.syntax.specs.Sizes.{mostBytes, mostHeight}
 use Rattle.syntax.specs.Symbol.{symbolAt, end}
 use Rattle.syntax.specs.Parser.{Result, refused, expressionFrom, inText, stepsFor, parseOf}
 use Rattle.syntax.specs.Height.{heightOf}
@@ -74,11 +75,11 @@ module _ (text : List ℕ) (e : Tree) where
   names-judged Nothing = refl
 
   -- it is the same on the tree as deep as is allowed
-  height-judged : (b : Bool) → ltb 64 (heightOf e) ≡ b → treeJudged text (place e) (pruned e 64) ≡ rootOf (byHeight b text e)
-  height-judged true h = rw (lt-leb (heightOf (pruned e 64)) 64 (pruned-high e 64 (ltb-true 64 (heightOf e) h))) refl
+  height-judged : (b : Bool) → ltb mostHeight (heightOf e) ≡ b → treeJudged text (place e) (pruned e mostHeight) ≡ rootOf (byHeight b text e)
+  height-judged true h = rw (lt-leb (heightOf (pruned e mostHeight)) mostHeight (pruned-high e mostHeight (ltb-true mostHeight (heightOf e) h))) refl
   height-judged false h =
-      let low = ltb-false 64 (heightOf e) h in
-      rw (pruned-low e 64 low, le-leb (heightOf e) 64 low) (names-judged (leftmostOf (unknownIn text e)))
+      let low = ltb-false mostHeight (heightOf e) h in
+      rw (pruned-low e mostHeight low, le-leb (heightOf e) mostHeight low) (names-judged (leftmostOf (unknownIn text e)))
 
   module _ (w : List ℕ) where
     names-kept : (l : Leftmost) → Kept (byNames l e) w (store w e)
@@ -89,41 +90,41 @@ module _ (text : List ℕ) (e : Tree) where
     height-kept true = length-lay w (shapeOf e)
     height-kept false = names-kept (leftmostOf (unknownIn text e))
 
-judged-alike : (text : List ℕ) {u v : List ℕ} {at p : ℕ} {t : Tree} → v ≡ u → at ≡ p → treeAt 64 u p ≡ t → treeJudged text at (treeAt 64 v at) ≡ treeJudged text p t
+judged-alike : (text : List ℕ) {u v : List ℕ} {at p : ℕ} {t : Tree} → v ≡ u → at ≡ p → treeAt mostHeight u p ≡ t → treeJudged text at (treeAt mostHeight v at) ≡ treeJudged text p t
 judged-alike text a b c = rw (a, b, c) refl
 
-module _ {text w v : List ℕ} {r : Parsed} (most : length text ≤ 1024) (room : length w ≡ length text) (h : WholeBy text w v r) where
+module _ {text w v : List ℕ} {r : Parsed} (most : length text ≤ mostBytes) (room : length w ≡ length text) (h : WholeBy text w v r) where
   pub grammar-bad : {y : Symbol} → length v ≡ length w → r ≡ parsed.Bad y → JudgedBy (byGrammar (parseOf text) text) w v (Refused (refusalAt 4 (y .at)))
   grammar-bad {y} same e =
       let says : parseOf text ≡ refused y = subst (λ r. Agrees shapeOf w v r (parseOf text)) e (h .says) in
       subst (λ a. JudgedBy (byGrammar a text) w v (Refused (refusalAt 4 (y .at)))) (sym says) (record { answers = refl; keeps = same })
 
-  pub grammar-goes : {at : ℕ} {y : Symbol} {j : Judgement} → r ≡ parsed.Tree at y → answerOf j ≡ treeJudged text at (treeAt 64 v at) → JudgedBy (byGrammar (parseOf text) text) w v j
+  pub grammar-goes : {at : ℕ} {y : Symbol} {j : Judgement} → r ≡ parsed.Tree at y → answerOf j ≡ treeJudged text at (treeAt mostHeight v at) → JudgedBy (byGrammar (parseOf text) text) w v j
   grammar-goes {at} {y} {j} e answer =
       let d : Good shapeOf w v at y (parseOf text) = subst (λ r. Agrees shapeOf w v r (parseOf text)) e (h .says) in
       let t = d .tree in
       let root : at ≡ place t = d .rooted ∙ root-shape t in
       let fits = parsed-fits text t y (d .is) in
-      let back = stored w 0 (length text) t 64 (fits .0) (fits .1) most (omega arith) in
+      let back = stored w 0 (length text) t mostHeight (fits .0) (fits .1) most (omega arith) in
       subst (λ a. JudgedBy (byGrammar a text) w v j) (sym (d .is)) (record {
-        answers = answer ∙ judged-alike text (d .wrote) root back ∙ height-judged text t (ltb 64 (heightOf t)) refl;
-        keeps = subst (λ v. Kept (byHeight (ltb 64 (heightOf t)) text t) w v) (sym (d .wrote)) (height-kept text t w (ltb 64 (heightOf t)));
+        answers = answer ∙ judged-alike text (d .wrote) root back ∙ height-judged text t (ltb mostHeight (heightOf t)) refl;
+        keeps = subst (λ v. Kept (byHeight (ltb mostHeight (heightOf t)) text t) w v) (sym (d .wrote)) (height-kept text t w (ltb mostHeight (heightOf t)));
       })
 
 -- ---- the judgement on a text
 
 module _ (text : List ℕ) {w : List ℕ} where
-  pub size-over : 1024 < length text → JudgedBy (judgedOf text) w w (Refused (refusalAt 1 1024))
+  pub size-over : mostBytes < length text → JudgedBy (judgedOf text) w w (Refused (refusalAt 1 mostBytes))
   unfolding judgedOf
-  size-over h = rw (lt-ltb 1024 (length text) h) (record { answers = refl; keeps = refl })
+  size-over h = rw (lt-ltb mostBytes (length text) h) (record { answers = refl; keeps = refl })
 
-  pub tokens-bad : {r : Refusal} → length text ≤ 1024 → scanOf text ≡ judged.refused r → JudgedBy (judgedOf text) w w (Refused r)
+  pub tokens-bad : {r : Refusal} → length text ≤ mostBytes → scanOf text ≡ judged.refused r → JudgedBy (judgedOf text) w w (Refused r)
   unfolding judgedOf
-  tokens-bad h e = rw (le-ltb 1024 (length text) h, e) (record { answers = refl; keeps = refl })
+  tokens-bad h e = rw (le-ltb mostBytes (length text) h, e) (record { answers = refl; keeps = refl })
 
-  pub tokens-fine : {v : List ℕ} {r : Judgement} → length text ≤ 1024 → scanOf text ≡ fine tt → JudgedBy (byGrammar (parseOf text) text) w v r → JudgedBy (judgedOf text) w v r
+  pub tokens-fine : {v : List ℕ} {r : Judgement} → length text ≤ mostBytes → scanOf text ≡ fine tt → JudgedBy (byGrammar (parseOf text) text) w v r → JudgedBy (judgedOf text) w v r
   unfolding judgedOf
-  tokens-fine h e j = rw (le-ltb 1024 (length text) h, e) j
+  tokens-fine h e j = rw (le-ltb mostBytes (length text) h, e) j
 
 -- ---- what the slots hold in the end
 

@@ -1,7 +1,10 @@
 -- `long_hex` is the definition, by what its calls promise.
-use mathlib.Core.Path.{sym}
+use mathlib.Core.Path.{_≡_, sym}
+use mathlib.Core.Bool.{true, _&&_}
 use borrow.Author.Needs.{needs}
+use Rattle.lexer.specs.Bytes.{isHexDigit}
 use Rattle.colour.specs.Text.{longHex}
+use Rattle.colour.proofs.Law.Texts.{long-is}
 use Rattle.colour.proofs.text.long_hex.Statement.{statement}
 use Rattle.colour.proofs.text.long_hex.Tie as tie
 
@@ -27,13 +30,15 @@ of-bytes-requires : tie.Need-of-bytes-requires
 of-bytes-requires c κs = search needs
 
 returns : tie.Need-returns
-unfolding longHex
 returns c =
-    rw (
+    let args = c .before .before .before .before .before .before .before .before .args in
+    let e : (isHexDigit (args .r) && isHexDigit (args .s)) && ((isHexDigit (args .g) && isHexDigit (args .h)) && (isHexDigit (args .b) && isHexDigit (args .c))) ≡ true = rw (
       sym (c .before .before .before .before .before .before .before .are-hex-digits .ensures),
       sym (c .before .before .before .before .before .before .are-hex-digits2 .ensures),
       sym (c .before .before .before .before .before .are-hex-digits3 .ensures),
-      c .before .before .before .before .if1 .taken,
+    ) (c .before .before .before .before .if1 .taken) in
+    rw (
+      long-is (args .r) (args .s) (args .g) (args .h) (args .b) (args .c) e,
       c .of-bytes .ensures,
       c .before .before .before .hex-byte .ensures,
       c .before .before .hex-byte2 .ensures,

@@ -1,9 +1,11 @@
 -- `short_hex` is the definition, by what its calls promise; seventeen times a digit is a byte.
-use mathlib.Core.Path.{sym}
+use mathlib.Core.Path.{_≡_, sym}
+use mathlib.Core.Bool.{true, _&&_}
 use native.Mathlib.Omega.{arith}
 use borrow.Author.Needs.{needs}
+use Rattle.lexer.specs.Bytes.{isHexDigit}
 use Rattle.colour.specs.Text.{shortHex}
-use Rattle.colour.proofs.Law.Texts.{small}
+use Rattle.colour.proofs.Law.Texts.{small, short-is}
 use Rattle.colour.proofs.text.short_hex.Statement.{statement}
 use Rattle.colour.proofs.text.short_hex.Tie as tie
 
@@ -41,13 +43,15 @@ of-bytes-requires : tie.Need-of-bytes-requires
 of-bytes-requires c κs = search needs
 
 returns : tie.Need-returns
-unfolding shortHex
 returns c =
-    rw (
+    let args = c .before .before .before .before .before .before .before .before .args in
+    let e : isHexDigit (args .r) && (isHexDigit (args .g) && isHexDigit (args .b)) ≡ true = rw (
       sym (c .before .before .before .before .before .before .before .is-hex-digit .ensures),
       sym (c .before .before .before .before .before .before .is-hex-digit2 .ensures),
       sym (c .before .before .before .before .before .is-hex-digit3 .ensures),
-      c .before .before .before .before .if1 .taken,
+    ) (c .before .before .before .before .if1 .taken) in
+    rw (
+      short-is (args .r) (args .g) (args .b) e,
       c .of-bytes .ensures,
       c .before .before .before .hex-value .ensures,
       c .before .before .hex-value2 .ensures,

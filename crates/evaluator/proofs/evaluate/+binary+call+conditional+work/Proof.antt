@@ -17,14 +17,15 @@ use Rattle.checker.proofs.operator.infix_at.Reads as infix-at-reads
 use Rattle.checker.proofs.operator.prefix_at.Reads as prefix-at-reads
 use Rattle.evaluator.proofs.arguments.places_at.Reads as places-at-reads
 use Rattle.evaluator.proofs.literal.literal.Reads as literal-reads
+use Rattle.evaluator.proofs.need.need_of.Reads as need-of-reads
+use Rattle.evaluator.proofs.need.needs_right.Reads as needs-right-reads
+use Rattle.evaluator.proofs.need.with_right.Reads as with-right-reads
 use Rattle.evaluator.proofs.operation.applied0.Reads as applied0-reads
 use Rattle.evaluator.proofs.operation.applied1.Reads as applied1-reads
 use Rattle.evaluator.proofs.operation.applied2.Reads as applied2-reads
 use Rattle.evaluator.proofs.operation.applied3.Reads as applied3-reads
 use Rattle.evaluator.proofs.operation.applied4.Reads as applied4-reads
 use Rattle.evaluator.proofs.truth.boolean.Reads as boolean-reads
-use Rattle.evaluator.proofs.truth.decides.Reads as decides-reads
-use Rattle.evaluator.proofs.truth.is_logical.Reads as is-logical-reads
 use Rattle.evaluator.proofs.truth.tested.Reads as tested-reads
 use Rattle.evaluator.proofs.values.value_at.Reads as value-at-reads
 use Rattle.tree.proofs.node.node_at.Reads as node-at-reads
@@ -42,7 +43,7 @@ use Rattle.value.specs.declared.apply.Outcome.{Outcome}
 use Rattle.tree.specs.Node.{mostCommas, treeAt}
 use Rattle.evaluator.specs.Eval.{applied, evalOf}
 use Rattle.evaluator.specs.Arrays.{arrayContext}
-use Rattle.evaluator.proofs.Law.Outcomes.{branch-by, decided, undecided, otherwise}
+use Rattle.evaluator.proofs.Law.Outcomes.{branch-by, left-decides, right-decides}
 use Rattle.evaluator.proofs.Law.Trees.{eval-step, call-step}
 
 -- An evaluation goes down a level of the allowance by way of one of the others.
@@ -84,7 +85,7 @@ abbrev work-below : ℕ → In 5 work-kinds.ps
 work-below t = and 5 work-kinds.ps (falls 5 work-kinds.ps _<_ μ-work t) work.Pre
 
 abbrev binary-uses : ℕ → binary-lts.Claims
-binary-uses t = (work-below t, work.Post, decides-reads.Asked, decides-reads.Learnt, boolean-reads.Asked, boolean-reads.Learnt, is-logical-reads.Asked, is-logical-reads.Learnt, infix-at-reads.Asked, infix-at-reads.Learnt, applied2-reads.Asked, applied2-reads.Learnt)
+binary-uses t = (infix-at-reads.Asked, infix-at-reads.Learnt, need-of-reads.Asked, need-of-reads.Learnt, work-below t, work.Post, needs-right-reads.Asked, needs-right-reads.Learnt, with-right-reads.Asked, with-right-reads.Learnt, boolean-reads.Asked, boolean-reads.Learnt)
 
 abbrev call-uses : ℕ → call-lts.Claims
 call-uses t = (function-at-reads.Asked, function-at-reads.Learnt, places-at-reads.Asked, places-at-reads.Learnt, applied0-reads.Asked, applied0-reads.Learnt, work-below t, work.Post, applied1-reads.Asked, applied1-reads.Learnt, applied2-reads.Asked, applied2-reads.Learnt, applied3-reads.Asked, applied3-reads.Learnt, applied4-reads.Asked, applied4-reads.Learnt)
@@ -95,85 +96,62 @@ conditional-uses t = (work-below t, work.Post, tested-reads.Asked, tested-reads.
 abbrev work-uses : ℕ → work-lts.Claims
 work-uses t = (literal-reads.Asked, literal-reads.Learnt, node-at-reads.Asked, node-at-reads.Learnt, value-at-reads.Asked, value-at-reads.Learnt, work-below t, work.Post, prefix-at-reads.Asked, prefix-at-reads.Learnt, applied1-reads.Asked, applied1-reads.Learnt, binary-below t, binary.Post, conditional-below t, conditional.Post, function-at-reads.Asked, function-at-reads.Learnt, applied0-reads.Asked, applied0-reads.Learnt, call-below t, call.Post, pick-at-reads.Asked, pick-at-reads.Learnt)
 
+binary-infix-at-requires : (t : ℕ) → binary-lts.Need-infix-at-requires (binary-uses t) (binary-at t) binary.Post
+binary-infix-at-requires t c κs = search needs
+
+binary-need-of-requires : (t : ℕ) → binary-lts.Need-need-of-requires (binary-uses t) (binary-at t) binary.Post
+binary-need-of-requires t c κs = search needs
+
 binary-work-requires : (t : ℕ) → binary-lts.Need-work-requires (binary-uses t) (binary-at t) binary.Post
 binary-work-requires t c κs = search needs
 
-binary-decides-requires : (t : ℕ) → binary-lts.Need-decides-requires (binary-uses t) (binary-at t) binary.Post
-binary-decides-requires t c κs = search needs
-
-binary-boolean-requires : (t : ℕ) → binary-lts.Need-boolean-requires (binary-uses t) (binary-at t) binary.Post
-binary-boolean-requires t c κs = search needs
-
-binary-returns : (t : ℕ) → binary-lts.Need-returns (binary-uses t) (binary-at t) binary.Post
-binary-returns t c =
-    let boolean′ = c .boolean in
-    let c1 = c .before in
-    let if1′ = c1 .if1 in
-    let c2 = c1 .before in
-    let decides′ = c2 .decides in
-    let c3 = c2 .before in
-    let work′ = c3 .work in
-    let c4 = c3 .before .before .before .before in
-    let start′ = c4 in
-    let s = start′ .args in
-    let c = arrayContext (s .style .now) (s .feature .now) (s .spans .now) (s .floats .now) (s .frame .base) in
-    let r = evalOf c (treeAt (s .frame .allowance) (s .slots .now) (s .operands .right)) in
-    rw (boolean′ .ensures, ← work′ .ensures) (decided (c .text) (s .operands .operator) (work′ .result) r (sym (decides′ .ensures) ∙ if1′ .taken))
+binary-needs-right-requires : (t : ℕ) → binary-lts.Need-needs-right-requires (binary-uses t) (binary-at t) binary.Post
+binary-needs-right-requires t c κs = search needs
 
 binary-work-requires-2 : (t : ℕ) → binary-lts.Need-work-requires-2 (binary-uses t) (binary-at t) binary.Post
 binary-work-requires-2 t c κs = search needs
 
-binary-is-logical-requires : (t : ℕ) → binary-lts.Need-is-logical-requires (binary-uses t) (binary-at t) binary.Post
-binary-is-logical-requires t c κs = search needs
+binary-with-right-requires : (t : ℕ) → binary-lts.Need-with-right-requires (binary-uses t) (binary-at t) binary.Post
+binary-with-right-requires t c κs = search needs
 
-binary-boolean-requires-2 : (t : ℕ) → binary-lts.Need-boolean-requires-2 (binary-uses t) (binary-at t) binary.Post
-binary-boolean-requires-2 t c κs = search needs
+binary-returns : (t : ℕ) → binary-lts.Need-returns (binary-uses t) (binary-at t) binary.Post
+binary-returns t c =
+    let with-right′ = c .with-right in
+    let c1 = c .before in
+    let work2′ = c1 .work2 in
+    let c2 = c1 .before in
+    let if1′ = c2 .if1 in
+    let c3 = c2 .before in
+    let needs-right′ = c3 .needs-right in
+    let c4 = c3 .before in
+    let work′ = c4 .work in
+    let c5 = c4 .before in
+    let need-of′ = c5 .need-of in
+    let c6 = c5 .before in
+    let infix-at′ = c6 .infix-at in
+    let s = c6 .before .before .before .before .args in
+    rw (with-right′ .ensures, ← work′ .ensures, ← work2′ .ensures, ← infix-at′ .ensures, ← need-of′ .ensures) (sym (right-decides (textIn (s .style .now) (s .feature .now)) (infix-at′ .result) (need-of′ .result) (work′ .result) (work2′ .result) (sym (needs-right′ .ensures) ∙ if1′ .taken)))
+
+binary-boolean-requires : (t : ℕ) → binary-lts.Need-boolean-requires (binary-uses t) (binary-at t) binary.Post
+binary-boolean-requires t c κs = search needs
 
 binary-returns-2 : (t : ℕ) → binary-lts.Need-returns-2 (binary-uses t) (binary-at t) binary.Post
 binary-returns-2 t c =
-    let boolean2′ = c .boolean2 in
+    let boolean′ = c .boolean in
     let c1 = c .before in
-    let if2′ = c1 .if2 in
+    let if1′ = c1 .if1 in
     let c2 = c1 .before in
-    let is-logical′ = c2 .is-logical in
+    let needs-right′ = c2 .needs-right in
     let c3 = c2 .before in
-    let work2′ = c3 .work2 in
+    let work′ = c3 .work in
     let c4 = c3 .before in
-    let if1′ = c4 .if1 in
+    let need-of′ = c4 .need-of in
     let c5 = c4 .before in
-    let decides′ = c5 .decides in
-    let c6 = c5 .before in
-    let work′ = c6 .work in
-    let c7 = c6 .before .before .before .before in
-    let start′ = c7 in
-    let s = start′ .args in
+    let infix-at′ = c5 .infix-at in
+    let s = c5 .before .before .before .before .args in
     let c = arrayContext (s .style .now) (s .feature .now) (s .spans .now) (s .floats .now) (s .frame .base) in
-    rw (boolean2′ .ensures, ← work′ .ensures, ← work2′ .ensures) (undecided (c .text) (s .operands .operator) (work′ .result) (work2′ .result) (sym (decides′ .ensures) ∙ if1′ .left) (sym (is-logical′ .ensures) ∙ if2′ .taken))
-
-binary-infix-at-requires : (t : ℕ) → binary-lts.Need-infix-at-requires (binary-uses t) (binary-at t) binary.Post
-binary-infix-at-requires t c κs = search needs
-
-binary-applied2-requires : (t : ℕ) → binary-lts.Need-applied2-requires (binary-uses t) (binary-at t) binary.Post
-binary-applied2-requires t c κs = search needs
-
-binary-returns-3 : (t : ℕ) → binary-lts.Need-returns-3 (binary-uses t) (binary-at t) binary.Post
-binary-returns-3 t c =
-    let applied2′ = c .applied2 in
-    let c1 = c .before in
-    let infix-at′ = c1 .infix-at in
-    let c2 = c1 .before in
-    let if2′ = c2 .if2 in
-    let c3 = c2 .before in
-    let is-logical′ = c3 .is-logical in
-    let c4 = c3 .before in
-    let work2′ = c4 .work2 in
-    let c5 = c4 .before .before .before in
-    let work′ = c5 .work in
-    let c6 = c5 .before .before .before .before in
-    let start′ = c6 in
-    let s = start′ .args in
-    let c = arrayContext (s .style .now) (s .feature .now) (s .spans .now) (s .floats .now) (s .frame .base) in
-    rw (applied2′ .ensures, infix-at′ .ensures, ← work′ .ensures, ← work2′ .ensures) (otherwise (c .text) (s .operands .operator) (work′ .result) (work2′ .result) (sym (is-logical′ .ensures) ∙ if2′ .left))
+    let r = evalOf c (treeAt (s .frame .allowance) (s .slots .now) (s .operands .right)) in
+    rw (boolean′ .ensures, ← work′ .ensures, ← infix-at′ .ensures, ← need-of′ .ensures) (sym (left-decides (c .text) (infix-at′ .result) (need-of′ .result) (work′ .result) r (sym (needs-right′ .ensures) ∙ if1′ .left)))
 
 call-function-at-requires : (t : ℕ) → call-lts.Need-function-at-requires (call-uses t) (call-at t) call.Post
 call-function-at-requires t c κs = search needs
@@ -607,7 +585,7 @@ work-returns-9 t c =
 pub +binary+call+conditional+work-spec : {M : Type 1} → statement M
 +binary+call+conditional+work-spec =
     close μ-binary μ-call μ-conditional μ-work
-    (λ t. binary-lts.spec (binary-uses t) (binary-at t) binary.Post (binary-work-requires t) (binary-decides-requires t) (binary-boolean-requires t) (binary-returns t) (binary-work-requires-2 t) (binary-is-logical-requires t) (binary-boolean-requires-2 t) (binary-returns-2 t) (binary-infix-at-requires t) (binary-applied2-requires t) (binary-returns-3 t))
+    (λ t. binary-lts.spec (binary-uses t) (binary-at t) binary.Post (binary-infix-at-requires t) (binary-need-of-requires t) (binary-work-requires t) (binary-needs-right-requires t) (binary-work-requires-2 t) (binary-with-right-requires t) (binary-returns t) (binary-boolean-requires t) (binary-returns-2 t))
     (λ t. call-lts.spec (call-uses t) (call-at t) call.Post (call-function-at-requires t) (call-places-at-requires t) (call-enum-told t) (call-applied0-requires t) (call-enum-known-p t) (call-work-requires t) (call-applied1-requires t) (call-enum-known-p-2 t) (call-work-requires-2 t) (call-work-requires-3 t) (call-applied2-requires t) (call-enum-known-p-3 t) (call-work-requires-4 t) (call-work-requires-5 t) (call-work-requires-6 t) (call-applied3-requires t) (call-enum-known-p-4 t) (call-work-requires-7 t) (call-work-requires-8 t) (call-work-requires-9 t) (call-work-requires-10 t) (call-applied4-requires t) (call-enum-told-2 t) (call-returns t) (call-returns-2 t) (call-returns-3 t) (call-returns-4 t) (call-returns-5 t) (call-returns-6 t))
     (λ t. conditional-lts.spec (conditional-uses t) (conditional-at t) conditional.Post (conditional-work-requires t) (conditional-tested-requires t) (conditional-enum-told t) (conditional-enum-told-2 t) (conditional-work-requires-2 t) (conditional-enum-told-3 t) (conditional-work-requires-3 t) (conditional-returns t) (conditional-returns-2 t) (conditional-returns-3 t))
     (λ t. work-lts.spec (work-uses t) (work-at t) work.Post (work-literal-requires t) (work-returns t) (work-sub-t33 t) (work-node-at-requires t) (work-enum-known-form t) (work-literal-requires-2 t) (work-enum-known-number t) (work-value-at-requires t) (work-enum-known-operator t) (work-work-requires t) (work-prefix-at-requires t) (work-applied1-requires t) (work-enum-known-o t) (work-binary-requires t) (work-enum-known-t t) (work-conditional-requires t) (work-enum-known-function t) (work-function-at-requires t) (work-applied0-requires t) (work-enum-known-f t) (work-call-requires t) (work-enum-known-index t) (work-work-requires-2 t) (work-pick-at-requires t) (work-applied1-requires-2 t) (work-returns-2 t) (work-returns-3 t) (work-returns-4 t) (work-returns-5 t) (work-returns-6 t) (work-returns-7 t) (work-returns-8 t) (work-returns-9 t))

@@ -21,8 +21,8 @@ abbrev μ-loop : tie.MeasureT-loop
 number-at-requires : tie.Need-number-at-requires Inv-loop μ-loop
 number-at-requires c κs = search needs
 
-at-most-requires : tie.Need-at-most-requires Inv-loop μ-loop
-at-most-requires c κs = search needs
+least-requires : tie.Need-least-requires Inv-loop μ-loop
+least-requires c κs = search needs
 
 loop-holds : tie.Need-loop-holds Inv-loop μ-loop
 loop-holds c =
@@ -30,11 +30,11 @@ loop-holds c =
 
 mul-row : tie.Need-mul-row Inv-loop μ-loop
 mul-row c =
-    omega (arith, c .before .before .at-most .ensures, c .loop-test .taken)
+    omega (arith, c .before .before .least .ensures .0, c .loop-test .taken)
 
 add-row : tie.Need-add-row Inv-loop μ-loop
 add-row c =
-    omega (arith, c .before .before .at-most .ensures, c .loop-test .taken)
+    omega (arith, c .before .before .least .ensures .0, c .loop-test .taken)
 
 row-value-requires : tie.Need-row-value-requires Inv-loop μ-loop
 row-value-requires c κs = search needs
@@ -44,18 +44,18 @@ is-true-requires c κs = search needs
 
 add-next : tie.Need-add-next Inv-loop μ-loop
 add-next c =
-    omega (arith, c .before .before .before .before .before .at-most .ensures, c .before .before .before .loop-test .taken)
+    omega (arith, c .before .before .before .before .before .least .ensures .0, c .before .before .before .loop-test .taken)
 
 colour-requires : tie.Need-colour-requires Inv-loop μ-loop
 colour-requires c κs = search needs
 
 returns : tie.Need-returns Inv-loop μ-loop
 returns c =
-    seeking-found _ _ _ (c .before .before .before .before .before .loop .inv) (omega (arith, c .before .before .before .before .before .before .at-most .ensures, c .before .before .before .before .before .before .before .number-at .ensures, c .before .before .before .before .loop-test .taken)) (ap truth (sym (c .before .before .before .row-value .ensures)) ∙ sym (c .before .before .is-true .ensures) ∙ c .before .if1 .taken) _ (c .colour .ensures)
+    seeking-found _ _ _ (c .before .before .before .before .before .loop .inv) (omega (arith, c .before .before .before .before .before .before .least .ensures .0, c .before .before .before .before .before .before .before .number-at .ensures, c .before .before .before .before .loop-test .taken)) (ap truth (sym (c .before .before .before .row-value .ensures)) ∙ sym (c .before .before .is-true .ensures) ∙ c .before .if1 .taken) _ (c .colour .ensures)
 
 add-k : tie.Need-add-k Inv-loop μ-loop
 add-k c =
-    omega (arith, c .before .before .before .before .before .at-most .ensures, c .before .before .before .loop-test .taken)
+    omega (arith, c .before .before .before .before .before .least .ensures .0, c .before .before .before .loop-test .taken)
 
 loop-less : tie.Need-loop-less Inv-loop μ-loop
 loop-less c =
@@ -63,11 +63,11 @@ loop-less c =
 
 loop-again : tie.Need-loop-again Inv-loop μ-loop
 loop-again c =
-    seeking-turn _ _ _ (c .before .before .before .before .loop .inv) (omega (arith, c .before .before .before .before .before .at-most .ensures, c .before .before .before .before .before .before .number-at .ensures, c .before .before .before .loop-test .taken)) (ap truth (sym (c .before .before .row-value .ensures)) ∙ sym (c .before .is-true .ensures) ∙ c .if1 .left)
+    seeking-turn _ _ _ (c .before .before .before .before .loop .inv) (omega (arith, c .before .before .before .before .before .least .ensures .0, c .before .before .before .before .before .before .number-at .ensures, c .before .before .before .loop-test .taken)) (ap truth (sym (c .before .before .row-value .ensures)) ∙ sym (c .before .is-true .ensures) ∙ c .if1 .left)
 
 returns-2 : tie.Need-returns-2 Inv-loop μ-loop
 returns-2 c =
-    seeking-end _ _ _ (c .before .loop .inv) (omega (arith, c .before .before .at-most .ensures, c .before .before .before .number-at .ensures, c .loop-test .left))
+    seeking-end _ _ _ (c .before .loop .inv) (omega (arith, c .before .before .least .ensures .0, c .before .before .before .number-at .ensures, c .loop-test .left))
 
 pub condition-spec : {M : Type 1} → statement M
 condition-spec =
@@ -76,7 +76,7 @@ condition-spec =
     Inv-loop
     μ-loop
     number-at-requires
-    at-most-requires
+    least-requires
     loop-holds
     mul-row
     add-row

@@ -19,8 +19,8 @@ abbrev μ-loop : tie.MeasureT-loop
 number-at-requires : tie.Need-number-at-requires Inv-loop μ-loop
 number-at-requires c κs = search needs
 
-at-most-requires : tie.Need-at-most-requires Inv-loop μ-loop
-at-most-requires c κs = search needs
+least-requires : tie.Need-least-requires Inv-loop μ-loop
+least-requires c κs = search needs
 
 loop-holds : tie.Need-loop-holds Inv-loop μ-loop
 loop-holds c =
@@ -31,14 +31,14 @@ row-value-requires c κs = search needs
 
 add-store : tie.Need-add-store Inv-loop μ-loop
 add-store c =
-    omega (arith, c .before .before .before .before .before .before .before .at-most .ensures, c .before .before .before .before .before .loop-test .taken)
+    omega (arith, c .before .before .before .before .before .before .before .least .ensures .0, c .before .before .before .before .before .loop-test .taken)
 
 store-requires : tie.Need-store-requires Inv-loop μ-loop
 store-requires c κs = search needs
 
 add-i : tie.Need-add-i Inv-loop μ-loop
 add-i c =
-    omega (arith, c .before .before .before .before .before .before .before .before .at-most .ensures, c .before .before .before .before .before .before .loop-test .taken)
+    omega (arith, c .before .before .before .before .before .before .before .before .least .ensures .0, c .before .before .before .before .before .before .loop-test .taken)
 
 loop-less : tie.Need-loop-less Inv-loop μ-loop
 loop-less c =
@@ -46,11 +46,11 @@ loop-less c =
 
 loop-again : tie.Need-loop-again Inv-loop μ-loop
 loop-again c =
-    storing-turn _ _ _ _ _ _ (c .before .before .before .before .before .before .before .loop .inv) (omega (arith, c .before .before .before .before .before .before .before .before .at-most .ensures, c .before .before .before .before .before .before .before .before .before .number-at .ensures, c .before .before .before .before .before .before .loop-test .taken)) _ (c .before .before .before .row-value .ensures) _ _ (c .store .ensures)
+    storing-turn _ _ _ _ _ _ (c .before .before .before .before .before .before .before .loop .inv) (omega (arith, c .before .before .before .before .before .before .before .before .least .ensures .0, c .before .before .before .before .before .before .before .before .before .number-at .ensures, c .before .before .before .before .before .before .loop-test .taken)) _ (c .before .before .before .row-value .ensures) _ _ (c .store .ensures)
 
 returns : tie.Need-returns Inv-loop μ-loop
 returns c =
-    storing-end _ _ _ _ _ _ (c .before .loop .inv) (omega (arith, c .before .before .at-most .ensures, c .before .before .before .number-at .ensures, c .loop-test .left))
+    storing-end _ _ _ _ _ _ (c .before .loop .inv) (omega (arith, c .before .before .least .ensures .0, c .before .before .before .number-at .ensures, c .loop-test .left))
 
 pub store-defines-spec : {M : Type 1} → statement M
 store-defines-spec =
@@ -59,7 +59,7 @@ store-defines-spec =
     Inv-loop
     μ-loop
     number-at-requires
-    at-most-requires
+    least-requires
     loop-holds
     row-value-requires
     add-store

@@ -1,7 +1,8 @@
--- The match goes from the lowest number up, and `precedenceOf` from the level that binds most, so each return answers the tests of `precedenceOf` up to its own.
+-- The match goes from the lowest number up, and `levelBy` from the level that binds most, so each return answers the tests of `levelBy` up to its own.
 use native.Mathlib.Omega.{arith}
 use borrow.Author.Tests.{le-leb, lt-leb, ne-eqb}
 use Rattle.syntax.specs.Symbol.{precedenceOf}
+use Rattle.syntax.proofs.Law.Operators.{precedence-is}
 use Rattle.syntax.proofs.symbol.precedence.Statement.{statement}
 use Rattle.syntax.proofs.symbol.precedence.Tie as tie
 
@@ -14,10 +15,10 @@ unfolding precedenceOf
 returns-2 c = rw (c .match .keys2)
 
 returns-3 : tie.Need-returns-3
-unfolding precedenceOf
 returns-3 c =
     let n = c .before .before .before .args .n in
     rw (
+      precedence-is n,
       lt-leb 12 n (omega arith),
       lt-leb 10 n (omega arith),
       lt-leb 6 n (omega arith),
@@ -26,10 +27,10 @@ returns-3 c =
     )
 
 returns-4 : tie.Need-returns-4
-unfolding precedenceOf
 returns-4 c =
     let n = c .before .before .before .before .args .n in
     rw (
+      precedence-is n,
       lt-leb 12 n (omega arith),
       lt-leb 10 n (omega arith),
       le-leb 6 n (omega arith),
@@ -37,22 +38,20 @@ returns-4 c =
     )
 
 returns-5 : tie.Need-returns-5
-unfolding precedenceOf
 returns-5 c =
     let n = c .before .before .before .before .before .args .n in
-    rw (lt-leb 12 n (omega arith), le-leb 10 n (omega arith), le-leb n 11 (omega arith))
+    rw (precedence-is n, lt-leb 12 n (omega arith), le-leb 10 n (omega arith), le-leb n 11 (omega arith))
 
 returns-6 : tie.Need-returns-6
-unfolding precedenceOf
 returns-6 c =
     let n = c .before .before .before .before .before .before .args .n in
-    rw (le-leb 12 n (omega arith), le-leb n 14 (omega arith))
+    rw (precedence-is n, le-leb 12 n (omega arith), le-leb n 14 (omega arith))
 
 returns-7 : tie.Need-returns-7
-unfolding precedenceOf
 returns-7 c =
     let n = c .before .before .args .n in
     rw (
+      precedence-is n,
       lt-leb 12 n (omega arith),
       lt-leb 10 n (omega arith),
       lt-leb 6 n (omega arith),
@@ -62,10 +61,10 @@ returns-7 c =
     )
 
 returns-8 : tie.Need-returns-8
-unfolding precedenceOf
 returns-8 c =
     let n = c .before .before .before .before .before .before .args .n in
     rw (
+      precedence-is n,
       le-leb 12 n (omega arith),
       lt-leb n 14 (omega arith),
       le-leb 10 n (omega arith),
