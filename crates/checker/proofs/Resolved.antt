@@ -1,62 +1,36 @@
 -- Names resolved: the numbers that they get, and the tree that is read back from the slots then.
-use mathlib.Core.Path.{_≡_, refl, sym, ap, _∙_}
+use mathlib.Core.Path.{_≡_, refl, sym, ap, _∙_, subst}
 use mathlib.Core.Bool.{Bool}
-use mathlib.Core.List.{List, _++_}
-use Prim.Native.Nat.{ℕ, suc, _+_, _/_, _%_, _<_, _≤_}
+use mathlib.Core.List.{List, [], _∷_, _++_}
+use Prim.Native.Nat.{ℕ, _+_, _/_, _%_, _<_, _≤_}
 use native.Mathlib.Omega.{arith}
-use borrow.Author.Tests.{eqb-true, ltb-true}
+use borrow.Author.Tests.{ltb-true}
 use lib.Dec.{ltb}
 use lib.ListN.{length}
 use Rattle.lexer.specs.Refusal.{fine}
+use Rattle.lexer.specs.Tokens.{Placed, placed}
+use Rattle.lexer.specs.declared.token.Token.{Token}
+use Rattle.lexer.specs.declared.token.Token.the-variants.{Variable, Word, Punctuator}
 use Rattle.lexer.proofs.Law.Runs.{by-test}
 use Rattle.tree.specs.Tree.{Tree, Arguments, place}
 use Rattle.tree.specs.Tree as tree
-use Rattle.tree.specs.Slots.{word, variableTag, functionTag, operatorTag, commaTag, pickTag, Shape, leaf, held, before, between, after, root, shapeOf, shapesOf}
+use Rattle.tree.specs.Slots.{word, variableTag, functionTag, questionTag, colonTag, operatorTag, commaTag, pickTag, Shape, leaf, held, before, between, after, root, shapeOf, shapesOf}
 use Rattle.tree.specs.Node.{treeAt}
 use Rattle.tree.specs.Fits.{Within, Known, KnownAll}
 use Rattle.tree.proofs.Law.Places.{root-shape}
 use Rattle.tree.proofs.Back.{Holds, read-back}
-use Rattle.syntax.specs.Symbol.{formOf, indexOf, functionOf, memberOf, precedenceOf}
-use Rattle.syntax.specs.Grammar.{
-  Nonterminal,
-  expression,
-  binary,
-  unary,
-  postfix,
-  primary,
-  arguments,
-  TreeOf,
-  ‹_›,
-  Derives,
-  expression-binary,
-  conditional,
-  binary-unary,
-  binary-lower,
-  binary-operation,
-  unary-postfix,
-  unary-operation,
-  postfix-primary,
-  member,
-  index,
-  literal,
-  variable,
-  bare,
-  call,
-  brackets,
-  last,
-  next,
-}
+use Rattle.syntax.specs.Anchored.{Among, IsLiteral, Anchored, AnchoredAll}
+use Rattle.syntax.specs.Anchored as anchored
 use Rattle.syntax.specs.Height.{heightOf, heightOfAll}
 use Rattle.syntax.specs.Judge.{judgedOf, slotsAfter}
 use Rattle.syntax.proofs.Laid.{judged-fits, slots-hold}
+use Rattle.syntax.proofs.Grammar.Anchored.{anchored-among}
 use Rattle.syntax.proofs.Grammar.Judged.{judged-fine}
 use Rattle.syntax.proofs.Law.Heights.{pruned-low}
-use Rattle.syntax.proofs.Law.Levels.{operator-number, prefix-operator}
-use Rattle.syntax.proofs.Law.Symbols.{in-range}
 use Rattle.checker.specs.Name.{nameAt, firstRow, propertyRow, rowIn, numberOf, resolvedSlots, resolved, resolvedAll}
 use Rattle.checker.specs.declared.name.Scope.{Scope}
 use Rattle.checker.specs.declared.name.Scope.the-variants.{Define, Style}
-use Rattle.checker.proofs.Law.Tokens.{Settled, Each, each-cut, each-between, numberedAll, tokens-listed, all-settled}
+use Rattle.checker.proofs.Law.Tokens.{Other, Settled, SettledAt, Each, each-cut, numberedAll, tokens-listed, all-settled}
 
 -- ---- the numbers of names
 
@@ -81,12 +55,12 @@ record Turned (v u : List ℕ) (s s′ : Shape) : Type 0 where
   within : (lo hi : ℕ) → Within lo hi s → Within lo hi s′
   holds : (lo hi : ℕ) → Within lo hi s → Holds v s → Holds u s′
 
-module _ {v u : List ℕ} {name : ℕ → ℕ} {n p : ℕ} (at : Settled v u name n p) where
-  turned-variable : (m : ℕ) → n ≡ 35 → name p < 1024 → Turned v u (held p variableTag m) (held p variableTag (name p))
+module _ {v u : List ℕ} {name : ℕ → ℕ} {t : Token} {p : ℕ} (at : Settled v u name t p) where
+  turned-variable : (m : ℕ) → t ≡ Variable → name p < 1024 → Turned v u (held p variableTag m) (held p variableTag (name p))
   unfolding Within Holds
   turned-variable m is small = record { rooted = refl; within = λ lo hi t. (t .0, t .1, t .2, small); holds = λ lo hi t h. at .named is }
 
-  module _ (tag : ℕ) (other : n < 35) where
+  module _ (tag : ℕ) (other : Other t) where
     turned-leaf : Turned v u (leaf p tag) (leaf p tag)
     unfolding Within Holds
     turned-leaf = record { rooted = refl; within = λ lo hi t. t; holds = λ lo hi t h. ap (λ (m : ℕ). m / 1024) (at .kept other) ∙ h }
@@ -124,50 +98,48 @@ module _ {v u : List ℕ} {name : ℕ → ℕ} {n p : ℕ} (at : Settled v u nam
       );
     }
 
--- ---- a derived tree
+-- ---- a tree whose nodes are read from its own tokens
 
-module _ (text v u : List ℕ) (name : ℕ → ℕ) (small : (p : ℕ) → name p < 1024) where
-  abbrev Turns : (of : Nonterminal) → TreeOf of → Type 0
-  Turns expression e = Turned v u (shapeOf e) (shapeOf (resolved name e))
-  Turns (binary k) e = Turned v u (shapeOf e) (shapeOf (resolved name e))
-  Turns unary e = Turned v u (shapeOf e) (shapeOf (resolved name e))
-  Turns postfix e = Turned v u (shapeOf e) (shapeOf (resolved name e))
-  Turns primary e = Turned v u (shapeOf e) (shapeOf (resolved name e))
-  Turns arguments xs = Turned v u (shapesOf xs) (shapesOf (resolvedAll name xs))
+literal-other : {t : Token} {k : ℕ} → IsLiteral t k → Other t
+literal-other (anchored.number digits places) = tt
+literal-other anchored.string = tt
+literal-other (anchored.word k h) = tt
 
-  -- each node stands at one of the symbols, a variable at that of a variable alone
-  turned : {of : Nonterminal} {xs : List _} {a : TreeOf of} → Derives text of xs a → Each xs (λ x. Settled v u name (x .number) (x .at)) → Turns of a
-  unfolding resolved
-  turned (expression-binary d) h = turned d h
-  turned (conditional {xs} {ys} {zs} x y i j d d₁ d₂) h =
-      let r = each-between (xs ++ ‹ x › ++ ys) y zs _ h in
-      let l = each-between xs x ys _ (r .0) in
-      turned-between (l .1) (operatorTag 0) (omega (arith, eqb-true (x .number) 0 i)) (turned d (l .0))
-      (turned-between (r .1) (operatorTag 1) (omega (arith, eqb-true (y .number) 1 j)) (turned d₁ (l .2)) (turned d₂ (r .2)))
-  turned (binary-unary d) h = turned d h
-  turned (binary-lower d) h = turned d h
-  turned (binary-operation {k} {xs} {ys} x i d d₁) h =
-      let c = each-between xs x ys _ h in
-      turned-between (c .1) (operatorTag (x .number)) (omega (arith, operator-number (x .number) k (eqb-true (precedenceOf (x .number)) (suc k) i))) (turned d (c .0)) (turned d₁ (c .2))
-  turned (unary-postfix d) h = turned d h
-  turned (unary-operation x i d) h = turned-before (h .0) (x .number) (omega (arith, prefix-operator x i)) (turned d (h .1))
-  turned (postfix-primary d) h = turned d h
-  turned (member {xs} x y i j d) h =
-      let c = each-between xs x ‹ y › _ h in
-      turned-after (c .1) (pickTag (memberOf text y)) (omega (arith, eqb-true (x .number) 21 i)) (turned d (c .0))
-  turned (index {xs} x y z i j k d) h =
-      let c = each-between xs x ‹ y › _ (each-cut (xs ++ ‹ x › ++ ‹ y ›) ‹ z › _ h .0) in
-      turned-after (c .1) (pickTag (indexOf y)) (omega (arith, eqb-true (x .number) 18 i)) (turned d (c .0))
-  turned (literal x i) h = turned-leaf (h .0) (formOf x) (omega (arith, in-range 22 33 (x .number) i))
-  turned (variable x i) h = turned-variable (h .0) 0 (eqb-true (x .number) 35 i) (small (x .at))
-  turned (bare x y z i j k) h = turned-held (h .0) (functionTag (functionOf text x)) (omega (arith, eqb-true (x .number) 34 i)) 0
-  turned (call {xs} x y z i j k d) h =
-      turned-before (h .0) (functionTag (functionOf text x)) (omega (arith, eqb-true (x .number) 34 i)) (turned d (each-cut xs ‹ z › _ (h .1 .1) .0))
-  turned (brackets {xs} x y i j d) h = turned d (each-cut xs ‹ y › _ (h .1) .0)
-  turned (last d) h = turned d h
-  turned (next {xs} {ys} x i d d₁) h =
-      let c = each-between xs x ys _ h in
-      turned-between (c .1) commaTag (omega (arith, eqb-true (x .number) 20 i)) (turned d (c .0)) (turned d₁ (c .2))
+module _ (text v u : List ℕ) (name : ℕ → ℕ) (small : (p : ℕ) → name p < 1024) (ts : List Placed) (settled : Each ts (SettledAt v u name)) where
+  -- the first of some that stand one after another
+  first : (t : Token) (p until : ℕ) (us : List Placed) → Among ts (placed t p until ∷ us) → Settled v u name t p
+  first t p until us (xs, ys, are) =
+      let h = subst (λ (all : List Placed). Each all (SettledAt v u name)) are settled in
+      each-cut xs (placed t p until ∷ us) (SettledAt v u name) (each-cut (xs ++ placed t p until ∷ us) ys (SettledAt v u name) h .0) .1 .0
+
+  alone : (t : Token) (p : ℕ) → anchored.At text (Among ts) t p → Settled v u name t p
+  alone t p (until, a) = first t p until [] a
+
+  called : (p f : ℕ) (c : anchored.Called text (Among ts) p f) → Settled v u name (Word (c .number)) p
+  called p f c = first (Word (c .number)) p (c .until) _ (c .stand)
+
+  picked : {p i : ℕ} → anchored.Picked text (Among ts) p i → (t : Token) × Other t × Settled v u name t p
+  picked (anchored.member k end at until a) = (_, tt, first (Punctuator _) _ end _ a)
+  picked (anchored.index i end at until close closed h a) = (_, tt, first (Punctuator _) _ end _ a)
+
+  mutual
+    unfolding resolved Anchored
+
+    turned : (e : Tree) → Anchored text (Among ts) e → Turned v u (shapeOf e) (shapeOf (resolved name e))
+    turned (tree.literal p k) (t, is, a) = turned-leaf (alone t p a) k (literal-other is)
+    turned (tree.variable p n) a = turned-variable (alone Variable p a) n refl (small p)
+    turned (tree.unary p o e) a = turned-before (alone (Punctuator o) p (a .0)) o tt (turned e (a .1))
+    turned (tree.binary p o l r) a = turned-between (alone (Punctuator o) p (a .0)) (operatorTag o) tt (turned l (a .1)) (turned r (a .2))
+    turned (tree.conditional p q c x y) a =
+        turned-between (alone _ p (a .0)) questionTag tt (turned c (a .2))
+        (turned-between (alone _ q (a .1)) colonTag tt (turned x (a .3)) (turned y (a .4)))
+    turned (tree.bare p f) a = turned-held (called p f a) (functionTag f) tt 0
+    turned (tree.call p f xs) a = turned-before (called p f (a .0)) (functionTag f) tt (turned-all xs (a .1))
+    turned (tree.pick p i e) a = let (t, other, at) = picked (a .0) in turned-after at (pickTag i) other (turned e (a .1))
+
+    turned-all : (xs : Arguments) → AnchoredAll text (Among ts) xs → Turned v u (shapesOf xs) (shapesOf (resolvedAll name xs))
+    turned-all (tree.last e) a = turned e a
+    turned-all (tree.next e q xs) a = turned-between (alone _ q (a .1)) commaTag tt (turned e (a .0)) (turned-all xs (a .2))
 
 -- ---- resolving changes neither the operations of a tree nor its height
 
@@ -219,7 +191,7 @@ read-resolved number small text w e h judged room low =
     let name : ℕ → ℕ = λ p. number (nameAt text p) in
     let u = numberedAll number text ts v in
     let t : Turned v u (shapeOf e) (shapeOf (resolved name e)) =
-    turned text v u name (λ p. small (nameAt text p)) derived (all-settled number text v ts (l .0) (omega (arith, kept .1))) in
+    turned text v u name (λ p. small (nameAt text p)) ts (all-settled number text v ts (l .0) (omega (arith, kept .1))) e (anchored-among text ts e derived) in
     let same : place (resolved name e) ≡ place e = sym (root-shape (resolved name e)) ∙ t .rooted ∙ root-shape e in
     let read = read-back u 0 n (resolved name e) h (t .within 0 n (d .2)) (known-resolved name e (d .3)) (d .0) (t .holds 0 n (d .2) (kept .0)) in
     let whole = pruned-low (resolved name e) h (rw (height-resolved name e) low) in

@@ -13,7 +13,6 @@ use Rattle.value.specs.declared.name.Found.the-variants.{Known, Unknown}
 use Rattle.value.specs.declared.apply.Outcome.{Outcome}
 use Rattle.value.specs.declared.apply.Outcome.the-variants.{Fault, Worked}
 use Rattle.value.specs.declared.value.Span.{Span}
-use Rattle.value.specs.declared.value.Value.{Value}
 use Rattle.value.specs.declared.value.Value.the-variants.{Boolean}
 use Rattle.tree.specs.Tree.{Tree, literal, variable, unary, binary, conditional, bare, call, pick, Arguments, last, next}
 use Rattle.checker.specs.Operator.{prefixAt, infixAt}

@@ -5,7 +5,7 @@ use mathlib.Core.Bool.{Bool, true, false, cond, _&&_, _||_}
 use mathlib.Core.List.{List, [], _∷_}
 use Prim.Native.Nat.{ℕ}
 use Rattle.kind.specs.Kind.{eqKind}
-use Rattle.kind.specs.Rule.{Signature, signatures, ofLogic, ruledBy, ruleOf}
+use Rattle.kind.specs.Rule.{Signature, ofLogic, ruledBy, ruleOf}
 use Rattle.kind.specs.declared.kind.Kind.the-variants as kind
 use Rattle.kind.specs.declared.kind.Ruled.{Ruled}
 use Rattle.kind.specs.declared.kind.Ruled.the-variants as rule

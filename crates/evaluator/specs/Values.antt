@@ -8,16 +8,21 @@ use lib.ListN.{getD}
 use lib.Ieee.{Float, nan}
 use lib.Seq.{sets}
 use Rattle.kind.specs.Kind.{numberOf}
+use Rattle.kind.specs.declared.kind.Kind.the-variants as kind
 use Rattle.value.specs.Value.{kindOf, at, truth, span}
 use Rattle.value.specs.declared.value.Value.{Value}
 use Rattle.value.specs.declared.value.Value.the-variants.{Undefined, Null, Boolean, Number, String, Vec2, Vec3, Vec4}
 use Rattle.plan.specs.Layout.{undeclared, spanPlace, floatPlace}
 
--- For each number there is a span, which is a kind and two places, and there are four floats. The kind is its number in page 01's list; 8
--- is a String too, one that lies in the style's text, while 4 lies in the feature's. A Boolean has 1 for true in its first place.
+-- a String that lies in the style's text; one in the feature's has the number of its kind
+abbrev pub literalString : ℕ
+literalString = 8
+
+-- For each number there is a span, which is a kind and two places, and there are four floats. The kind is its number in page 01's list. A
+-- Boolean has 1 for true in its first place.
 unfoldable pub valueAt : List ℕ → List Float → ℕ → Value
 valueAt spans floats n =
-    let kind = getD spans (spanPlace n) 0 in
+    let tag = getD spans (spanPlace n) 0 in
     let start = getD spans (spanPlace n + 1) 0 in
     let end = getD spans (spanPlace n + 2) 0 in
     let x = getD floats (floatPlace n) nan in
@@ -25,20 +30,20 @@ valueAt spans floats n =
     let z = getD floats (floatPlace n + 2) nan in
     let w = getD floats (floatPlace n + 3) nan in
     cond (leb undeclared n) Undefined
-    (cond (eqb kind 1) Null
-    (cond (eqb kind 2) (Boolean (eqb start 1))
-    (cond (eqb kind 3) (Number x)
-    (cond (eqb kind 4) (String (record { literal = false; start = start; end = end }))
-    (cond (eqb kind 5) (Vec2 x y)
-    (cond (eqb kind 6) (Vec3 x y z)
-    (cond (eqb kind 7) (Vec4 x y z w)
-    (cond (eqb kind 8) (String (record { literal = true; start = start; end = end })) Undefined))))))))
+    (cond (eqb tag (numberOf kind.Null)) Null
+    (cond (eqb tag (numberOf kind.Boolean)) (Boolean (eqb start 1))
+    (cond (eqb tag (numberOf kind.Number)) (Number x)
+    (cond (eqb tag (numberOf kind.String)) (String (record { literal = false; start = start; end = end }))
+    (cond (eqb tag (numberOf kind.Vec2)) (Vec2 x y)
+    (cond (eqb tag (numberOf kind.Vec3)) (Vec3 x y z)
+    (cond (eqb tag (numberOf kind.Vec4)) (Vec4 x y z w)
+    (cond (eqb tag literalString) (String (record { literal = true; start = start; end = end })) Undefined))))))))
 
 -- ---- a value that is stored
 
 -- its span and its floats
 abbrev pub spanKind : Value → ℕ
-spanKind v = cond (span v .literal) 8 (numberOf (kindOf v))
+spanKind v = cond (span v .literal) literalString (numberOf (kindOf v))
 
 abbrev pub spanStart : Value → ℕ
 spanStart v = cond (truth v) 1 (span v .start)

@@ -4,5 +4,6 @@ pub mod Printed
 pub mod Sound
 pub mod Judged
 pub mod Complete
+pub mod Placed
 pub mod Demands
 pub mod Law

@@ -15,7 +15,7 @@ use Rattle.lexer.proofs.Law.Runs.{by-test}
 use Rattle.kind.specs.declared.set.Kinds.{Kinds}
 use Rattle.value.specs.declared.value.Value.{Value}
 use Rattle.text.specs.Parts.{lines, bytesOf}
-use Rattle.style.specs.Answer.{Answer, refusal, accepted, numberOf, onAccepted}
+use Rattle.style.specs.Answer.{Answer, refusal, accepted, onAccepted}
 use Rattle.style.specs.Style.{Style}
 use Rattle.style.specs.Head.{headOf, headSize, roomSize, shortRoom, longHead, styleOf, checkedOf}
 use Rattle.style.specs.Items.{NoItem, LineOrigin}
@@ -27,7 +27,7 @@ use Rattle.feature.specs.Feature.{Values, complete, broken, enteredOf, allConfo
 use Rattle.feature.proofs.Conforming.{by-line}
 use Rattle.painter.specs.Paint.{Written, onValues, schemaOf, writtenFor, featured, leastBytes, shortBuffer, paintedOf}
 use Rattle.painter.specs.Meaning.{givenOf}
-use Rattle.painter.specs.Demand.{HeadRefused, CallRefused, Neither, ConformsTo, ReadsAs, Reading, Conforming}
+use Rattle.painter.specs.Demand.{HeadRefused, CallRefused, CheckRefused, PaintRefused, Answered, Neither, ConformsTo, ReadsAs, Reading, Conforming}
 use Rattle.painter.specs.Demand as table
 
 -- ---- what is accepted
@@ -41,7 +41,7 @@ accepted-first next b (accepted a) e = (a, refl, e)
 
 module _ (slots : ℕ) (head : List ℕ) where
   -- an answer that is a refusal is one of the table
-  abbrev pub HeadTable : {A : Type 0} → Answer A → Type 0
+  abbrev HeadTable : {A : Type 0} → Answer A → Type 0
   HeadTable (refusal n r) = HeadRefused slots head n r
   HeadTable (accepted a) = Unit {0}
 
@@ -61,7 +61,7 @@ module _ (slots : ℕ) (head : List ℕ) where
       (λ u. table.by-size (ltb-false slots roomSize t) (ltb-true headSize (length head) u))
       (λ u. lines-table (ltb-false slots roomSize t) (ltb-false headSize (length head) u) (headOf head) refl))
 
-  pub check-table : HeadTable (checkedOf slots head)
+  check-table : HeadTable (checkedOf slots head)
   check-table = go (styleOf slots head) style-table
     where
       go : (a : Answer Style) → HeadTable a → HeadTable {A = Unit {0}} (onAccepted a (λ s. accepted tt))
@@ -83,14 +83,6 @@ module _ (slots : ℕ) (head : List ℕ) where
   style-refused {n = n} {r = r} (table.by-expression enough small o) =
       style-head enough small ∙ refused-line head n r .1 (refused-origin head n r .1 (inr o))
 
-  -- a refusal of another number than 10, 1 and 8 is one of an expression
-  pub of-expression : {n : ℕ} {r : Refusal} → (r .number ≡ 10 → ⊥) → (r .number ≡ 1 → ⊥) → (r .number ≡ 8 → ⊥) → HeadRefused slots head n r →
-      (roomSize ≤ slots) × (length head ≤ headSize) × LineOrigin head n r
-  of-expression a b c (table.by-room h) = absurd (a refl)
-  of-expression a b c (table.by-size enough h) = absurd (b refl)
-  of-expression a b c (table.by-line enough small x) = absurd (c (x .eight))
-  of-expression a b c (table.by-expression enough small o) = (enough, small, o)
-
   -- what is accepted gives a style, behind 10 and the head's size
   pub style-given : (s : Style) → styleOf slots head ≡ accepted s → (roomSize ≤ slots) × (length head ≤ headSize) × (headOf head ≡ accepted s)
   unfolding styleOf
@@ -106,7 +98,7 @@ module _ (slots : ℕ) (head : List ℕ) where
 -- ---- a call, by the table
 
 module _ (bytes slots : ℕ) (head : List ℕ) (number : ℕ) (feature : List ℕ) where
-  abbrev pub Table : Answer Written → Type 0
+  abbrev Table : Answer Written → Type 0
   Table (refusal n r) = CallRefused bytes slots head number feature n r
   Table (accepted w) = Unit {0}
 
@@ -117,7 +109,7 @@ module _ (bytes slots : ℕ) (head : List ℕ) (number : ℕ) (feature : List �
     feature-table (fine (broken vs p)) e = table.by-strip s enough is (ap (λ j. onFine j allConform) e)
     feature-table (fine (complete vs)) e = tt
 
-  pub paint-table : Table (paintedOf bytes slots head number feature)
+  paint-table : Table (paintedOf bytes slots head number feature)
   unfolding paintedOf
   paint-table =
       by-test Table (ltb bytes leastBytes) (λ t. table.by-buffer (ltb-true bytes leastBytes t))
@@ -134,11 +126,11 @@ module _ (bytes slots : ℕ) (head : List ℕ) (number : ℕ) (feature : List �
   paint-style enough = passed _ (le-ltb bytes leastBytes enough) refl
 
   -- what the table refuses is refused
-  pub paint-refused : {n : ℕ} {r : Refusal} → CallRefused bytes slots head number feature n r → paintedOf bytes slots head number feature ≡ refusal n r
+  call-refused : {n : ℕ} {r : Refusal} → CallRefused bytes slots head number feature n r → paintedOf bytes slots head number feature ≡ refusal n r
   unfolding paintedOf
-  paint-refused (table.by-buffer h) = taken _ (lt-ltb bytes leastBytes h) refl
-  paint-refused (table.by-head enough t) = paint-style enough ∙ ap (λ x. onAccepted x (λ s. featured s number feature)) (style-refused slots head t)
-  paint-refused {r = r} (table.by-strip s enough is f) =
+  call-refused (table.by-buffer h) = taken _ (lt-ltb bytes leastBytes h) refl
+  call-refused (table.by-head enough t) = paint-style enough ∙ ap (λ x. onAccepted x (λ s. featured s number feature)) (style-refused slots head t)
+  call-refused {r = r} (table.by-strip s enough is f) =
       paint-style enough ∙ ap (λ x. onAccepted x (λ s. featured s number feature)) is ∙ go (enteredOf (schemaOf s) number feature) f
     where
       go : (j : Judged Values) → onFine j allConform ≡ refused r →
@@ -166,6 +158,41 @@ module _ (bytes slots : ℕ) (head : List ℕ) (number : ℕ) (feature : List �
           let (s, is, f) = accepted-first (λ s. featured s number feature) w (styleOf slots head) e in
           let (vs, are) = reads s (enteredOf (schemaOf s) number feature) f in
           record { style = s; values = vs; gives = is; reads = are }
+
+-- ---- refused exactly by the table
+
+pub check-refused : CheckRefused
+check-refused slots head n r = (
+  (λ e. subst (HeadTable slots head) e (check-table slots head)),
+  (λ t. ap (λ (x : Answer Style). onAccepted x (λ s. accepted tt)) (style-refused slots head t)),
+)
+
+pub paint-refused : PaintRefused
+paint-refused bytes slots head number feature n r = (
+  (λ e. subst (Table bytes slots head number feature) e (paint-table bytes slots head number feature)),
+  (λ t. call-refused bytes slots head number feature t),
+)
+
+pub answered : Answered
+answered bytes slots head number feature = go (paintedOf bytes slots head number feature) refl
+  where
+    go : (a : Answer Written) → paintedOf bytes slots head number feature ≡ a →
+        ((n : ℕ) × (r : Refusal) × CallRefused bytes slots head number feature n r)
+        ⊎ ((w : Written) × (paintedOf bytes slots head number feature ≡ accepted w))
+    go (refusal n r) e = inl (n, r, paint-refused bytes slots head number feature n r .0 e)
+    go (accepted w) e = inr (w, e)
+
+-- a refusal of another number than 10, 1 and 8 is one of an expression, behind 10 and the head's size
+pub of-expression : (slots : ℕ) (head : List ℕ) (n : ℕ) (r : Refusal) → (r .number ≡ 10 → ⊥) → (r .number ≡ 1 → ⊥) → (r .number ≡ 8 → ⊥) →
+    checkedOf slots head ≡ refusal n r → (roomSize ≤ slots) × (length head ≤ headSize) × LineOrigin head n r
+of-expression slots head n r a b c e = go a b c (check-refused slots head n r .0 e)
+  where
+    go : {n : ℕ} {r : Refusal} → (r .number ≡ 10 → ⊥) → (r .number ≡ 1 → ⊥) → (r .number ≡ 8 → ⊥) → HeadRefused slots head n r →
+        (roomSize ≤ slots) × (length head ≤ headSize) × LineOrigin head n r
+    go a b c (table.by-room h) = absurd (a refl)
+    go a b c (table.by-size enough h) = absurd (b refl)
+    go a b c (table.by-line enough small x) = absurd (c (x .eight))
+    go a b c (table.by-expression enough small o) = (enough, small, o)
 
 -- ---- a feature conforms exactly if it reads as values under the schema
 
@@ -220,6 +247,14 @@ module _ (slots : ℕ) (head : List ℕ) (number : ℕ) (feature : List ℕ) whe
         ap (λ (a : Answer Style). onAccepted a (λ s. accepted tt)) (x .gives),
         conforms-reads head small (x .style) (given-schema head (x .style) given) number feature .1 (x .values, x .reads),
       )
+
+-- what is painted then
+pub reading-painted : (slots : ℕ) (head : List ℕ) (number : ℕ) (feature : List ℕ) (x : Reading slots head number feature) (bytes : ℕ) → leastBytes ≤ bytes →
+    paintedOf bytes slots head number feature ≡ accepted (writtenFor number (givenOf (x .style) feature (x .values)))
+reading-painted slots head number feature x bytes enough =
+    paint-style bytes slots head number feature enough
+    ∙ ap (λ a. onAccepted a (λ s. featured s number feature)) (x .gives)
+    ∙ ap (λ j. onAccepted (onValues number j (givenOf (x .style) feature)) (λ given. accepted (writtenFor number given))) (x .reads)
 
 -- what is true of every style and values that head and strip read as
 pub conforming : (P : (slots : ℕ) (head : List ℕ) (number : ℕ) (feature : List ℕ) → Style → List Value → Type 0) →

@@ -10,11 +10,10 @@ use Rattle.lexer.specs.Bytes.{same}
 use Rattle.lexer.proofs.Law.Runs.{by-test}
 use Rattle.kind.specs.Set.{has}
 use Rattle.kind.specs.declared.kind.Kind.the-variants as kind
-use Rattle.kind.specs.declared.set.Kinds.{Kinds}
 use Rattle.kind.proofs.Law.Sets.{in-single}
 use Rattle.value.specs.Value.{kindOf, truth}
 use Rattle.value.specs.declared.apply.Outcome.{Outcome}
-use Rattle.value.specs.declared.apply.Outcome.the-variants.{Fault, Worked}
+use Rattle.value.specs.declared.apply.Outcome.the-variants.{Worked}
 use Rattle.value.specs.declared.value.Span.{Span}
 use Rattle.value.specs.declared.value.Value.{Value}
 use Rattle.value.specs.declared.value.Value.the-variants.{Undefined, Null, Boolean, Number, String, Vec2, Vec3, Vec4}
@@ -37,12 +36,15 @@ use Rattle.evaluator.proofs.Entries.{none-joined, none-faults}
 use Rattle.style.specs.Style.{Declared, Expression, Define, Condition, Style, propertyIn, definedIn, kindsIn}
 use Rattle.style.specs.Holds.{Each}
 use Rattle.style.specs.Accepted.{Stands, AllStand}
+use Rattle.style.proofs.Accepted.{accepted-stand}
 use Rattle.feature.specs.Feature.{AllOf}
+use Rattle.feature.proofs.Conforming.{entered-conform}
 use Rattle.painter.specs.Given.{Asked, asked, untilTrue}
 use Rattle.painter.specs.Meaning.{propertyValue, propertyOutcome, contextAt, expressionAt, byDefine, definedOutcome, stringsOf, nameOutcome, ownBase, outcomeOf, valueOf}
 use Rattle.painter.specs.Paint.{declaredKinds, schemaOf}
 use Rattle.painter.specs.Entries.{workedOutOf, namedEntries, entriesIn, entriesInAll, entriesFor}
-use Rattle.painter.specs.Demand.{NoneFails}
+use Rattle.painter.specs.Demand.{Reading, NoneFails}
+use Rattle.painter.proofs.Order.{style-given}
 
 -- ---- names
 
@@ -180,3 +182,11 @@ module _ (s : Style) where
 
       pub none-fails : NoneFaults (entriesFor s feature vs) × NoneFails (outcomeOf s feature vs) (workedOutOf s feature vs)
       none-fails = (faults-none (workedOutOf s feature vs) worked-stood, fails-none (workedOutOf s feature vs) worked-stood)
+
+-- of a style that a head gives and values that a strip reads as
+pub reading-sound : (slots : ℕ) (head : List ℕ) (number : ℕ) (feature : List ℕ) (x : Reading slots head number feature) →
+    NoneFaults (entriesFor (x .style) feature (x .values))
+    × NoneFails (outcomeOf (x .style) feature (x .values)) (workedOutOf (x .style) feature (x .values))
+reading-sound slots head number feature x =
+    let (_, _, is) = style-given slots head (x .style) (x .gives) in
+    none-fails (x .style) (x .values) (entered-conform (schemaOf (x .style)) number feature (x .values) (x .reads)) (accepted-stand head (x .style) is) feature

@@ -13,7 +13,7 @@ use Rattle.lexer.specs.declared.token.Token.{Token}
 use Rattle.lexer.specs.declared.token.Token.the-variants.{Number, String, Variable, Word, Punctuator}
 use Rattle.lexer.specs.declared.token.Lexeme.{Lexeme}
 use Rattle.lexer.specs.declared.token.Lexeme.the-variants.{Found, Bad, End}
-use Rattle.value.specs.Name.{functionNames, memberIndex}
+use Rattle.value.specs.Name.{functionNames, components, memberIndex}
 use Rattle.syntax.specs.declared.symbol.Symbol.{Symbol}
 
 -- ---- the numbers
@@ -55,7 +55,7 @@ none = 37
 
 -- "`[0]` to `[3]`"
 abbrev pub indices : ℕ
-indices = 4
+indices = components
 
 -- "the index one digit": such a number has no digit after the point
 abbrev pub numberOf : Token → ℕ

@@ -3,7 +3,7 @@ use mathlib.Core.Bool.{cond}
 use mathlib.Core.List.{List, [], _∷_, map}
 use Prim.Native.Nat.{ℕ, _%_}
 use lib.Dec.{ltb}
-use lib.ListN.{drop}
+use lib.ListN.{length, drop}
 use Rattle.lexer.specs.Bytes.{placeIn, ascii}
 use Rattle.kind.specs.declared.operation.Unary.the-variants.{Abs, Sign, Floor, Ceil, Round, Fract}
 use Rattle.kind.specs.declared.operation.Binary.the-variants.{Min, Max}
@@ -67,9 +67,13 @@ functionAt n = first (drop n (map operation functions))
 abbrev pub memberNames : List (List ℕ)
 memberNames = ascii "x" ∷ ascii "y" ∷ ascii "z" ∷ ascii "w" ∷ ascii "r" ∷ ascii "g" ∷ ascii "b" ∷ ascii "a" ∷ []
 
--- the index of the component that a member picks; 4 for what is no member
+-- x y z w
+abbrev pub components : ℕ
+components = 4
+
+-- the index of the component that a member picks; for what is no member the first number behind these
 unfoldable pub memberIndex : List ℕ → ℕ
-memberIndex w = cond (ltb (placeIn memberNames w) 8) (placeIn memberNames w % 4) 4
+memberIndex w = cond (ltb (placeIn memberNames w) (length memberNames)) (placeIn memberNames w % components) components
 
 -- by the index of a component, "`[0]` to `[3]`"
 unfoldable pub pickAt : ℕ → Found

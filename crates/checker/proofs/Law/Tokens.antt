@@ -15,9 +15,6 @@ use Rattle.lexer.specs.declared.token.Lexeme.the-variants.{Found, Bad, End}
 use Rattle.lexer.proofs.Found.{found-again}
 use Rattle.lexer.proofs.OnDemand.{on-demand}
 use Rattle.tree.specs.Slots.{word, variableTag}
-use Rattle.syntax.specs.Place.{symbolsOf}
-use Rattle.syntax.specs.Symbol.{numberOf}
-use Rattle.syntax.proofs.Law.Symbols.{digits-below, word-below, punctuator-apart}
 use Rattle.checker.specs.Name.{nameIn, endOf, nameAt, numbered, resolvedFrom, resolvedSlots}
 use Rattle.checker.specs.Inner.{Stands}
 use Rattle.checker.proofs.Law.Names.{found-ahead, found-stands, no-step, one-step}
@@ -76,13 +73,13 @@ module _ (number : List ℕ → ℕ) (text : List ℕ) where
 
 -- ---- the slots of one token
 
--- 35 is the number of variables only
-variable-number : (t : Token) → numberOf t ≡ 35 → t ≡ Variable
-variable-number (Number n k) e = absurd (omega (arith, digits-below n k))
-variable-number String e = absurd (omega arith)
-variable-number Variable e = refl
-variable-number (Word k) e = absurd (omega (arith, word-below k))
-variable-number (Punctuator k) e = absurd (punctuator-apart k .1 e)
+-- a token that is no variable
+abbrev pub Other : Token → Type 0
+Other (Number n k) = Unit {0}
+Other String = Unit {0}
+Other Variable = ⊥
+Other (Word k) = Unit {0}
+Other (Punctuator k) = Unit {0}
 
 module _ (number : List ℕ → ℕ) (text : List ℕ) where
   -- every slot but a variable's own is as it was
@@ -117,11 +114,14 @@ module _ (number : List ℕ → ℕ) (text : List ℕ) where
 
 -- ---- the slots of all tokens
 
--- u are the slots v, with a number in those of variables alone: at the place of a symbol with a number, and in the slot before it
-pub record Settled (v u : List ℕ) (name : ℕ → ℕ) (symbol place : ℕ) : Type 0 where
-  pub kept : symbol < 35 → getD u place 0 ≡ getD v place 0
-  pub named : symbol ≡ 35 → getD u place 0 ≡ word variableTag (name place)
+-- u are the slots v, with a number in those of variables alone: at the place of a token, and in the slot before it
+pub record Settled (v u : List ℕ) (name : ℕ → ℕ) (t : Token) (place : ℕ) : Type 0 where
+  pub kept : Other t → getD u place 0 ≡ getD v place 0
+  pub named : t ≡ Variable → getD u place 0 ≡ word variableTag (name place)
   pub left : 0 < place → getD u (place - 1) 0 ≡ getD v (place - 1) 0
+
+abbrev pub SettledAt : List ℕ → List ℕ → (ℕ → ℕ) → Placed → Type 0
+SettledAt v u name (placed t at end) = Settled v u name t at
 
 -- each of a list is as asked
 abbrev pub Each : {A : Type 0} → List A → (A → Type 0) → Type 0
@@ -132,28 +132,21 @@ pub each-cut : {A : Type 0} (xs ys : List A) (P : A → Type 0) → Each (xs ++ 
 each-cut [] ys P h = (tt, h)
 each-cut (x ∷ xs) ys P h = let r = each-cut xs ys P (h .1) in ((h .0, r .0), r .1)
 
--- with one in the middle
-pub each-between : {A : Type 0} (xs : List A) (x : A) (ys : List A) (P : A → Type 0) → Each (xs ++ (x ∷ []) ++ ys) P → Each xs P × P x × Each ys P
-each-between xs x ys P h =
-    let a = each-cut (xs ++ (x ∷ [])) ys P h in
-    let b = each-cut xs (x ∷ []) P (a .0) in
-    (b .0, b .1 .0, a .1)
-
 module _ (number : List ℕ → ℕ) (text v : List ℕ) where
   -- after the tokens before lo, w agrees with v from the slot before lo on
   settles : (lo : ℕ) (ts : List Placed) (w : List ℕ) → Rising text lo ts → length text ≤ length w → ((i : ℕ) → lo ≤ i + 1 → getD w i 0 ≡ getD v i 0) →
-      Each (symbolsOf ts) (λ x. Settled v (numberedAll number text ts w) (λ p. number (nameAt text p)) (x .number) (x .at))
+      Each ts (SettledAt v (numberedAll number text ts w) (λ p. number (nameAt text p)))
   settles lo [] w r room same = tt
   settles lo (placed t at end ∷ ts) w (low, stands, found, rest) room same =
       let w′ = numbered number text t at end w in (
         record {
-          kept = λ h. below number text end at ts w′ rest (stands .order) ∙ numbered-other number text t at end at w (λ v e. omega (arith, ap numberOf v)) ∙ same at (omega arith);
-          named = λ h. below number text end at ts w′ rest (stands .order) ∙ numbered-own number text t at end w (variable-number t h) found (omega (arith, stands));
+          kept = λ h. below number text end at ts w′ rest (stands .order) ∙ numbered-other number text t at end at w (λ v e. subst Other v h) ∙ same at (omega arith);
+          named = λ h. below number text end at ts w′ rest (stands .order) ∙ numbered-own number text t at end w h found (omega (arith, stands));
           left = λ h. below number text end (at - 1) ts w′ rest (omega (arith, stands .order)) ∙ numbered-other number text t at end (at - 1) w (λ v e. omega arith) ∙ same (at - 1) (omega arith);
         },
         settles end ts w′ rest (omega (arith, length-numbered number text t at end w)) (λ i h.
             numbered-other number text t at end i w (λ v e. omega (arith, stands .long v)) ∙ same i (omega (arith, stands .order))),
       )
 
-  pub all-settled : (ts : List Placed) → Rising text 0 ts → length text ≤ length v → Each (symbolsOf ts) (λ x. Settled v (numberedAll number text ts v) (λ p. number (nameAt text p)) (x .number) (x .at))
+  pub all-settled : (ts : List Placed) → Rising text 0 ts → length text ≤ length v → Each ts (SettledAt v (numberedAll number text ts v) (λ p. number (nameAt text p)))
   all-settled ts r room = settles 0 ts v r room (λ i h. refl)

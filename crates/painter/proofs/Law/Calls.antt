@@ -1,10 +1,10 @@
 -- What the calls answer, by what they were answered.
 use mathlib.Core.Path.{_≡_, refl, sym, _∙_, ap, subst}
-use mathlib.Core.Bool.{Bool, true, false, cond, false≢true}
+use mathlib.Core.Bool.{Bool, true, false, false≢true}
 use mathlib.Core.List.{List, []}
 use Prim.Native.Nat.{ℕ, _<_, _≤_}
 use native.Mathlib.Omega.{arith}
-use borrow.Author.Tests.{lt-ltb, le-ltb, ltb-false}
+use borrow.Author.Tests.{lt-ltb, le-ltb, ltb-true, ltb-false}
 use lib.Dec.{ltb}
 use lib.Ieee.{Float}
 use lib.ListN.{length, replicate}
@@ -13,7 +13,7 @@ use Rattle.lexer.specs.declared.refusal.Refusal.{Refusal}
 use Rattle.plan.specs.Layout.{spansSize, floatsSize}
 use Rattle.style.specs.Answer.{Answer, refusal, accepted, onAccepted}
 use Rattle.style.specs.Style.{Style}
-use Rattle.style.specs.Head.{headOf, headSize, roomSize, shortRoom, longHead, styleOf, checkedOf}
+use Rattle.style.specs.Head.{headOf, headSize, roomSize, styleOf, checkedOf}
 use Rattle.style.specs.Head as style
 use Rattle.style.specs.Compile.{planBy, planAfter, roomBy, treesAfter}
 use Rattle.style.specs.Holds.{Holds}
@@ -213,3 +213,21 @@ module _ (bytes : ℕ) (room : List ℕ) (head : List ℕ) (number : ℕ) (featu
           z
           ∙ ap (λ (n : ℕ). replicate n 0) (ap length left ∙ size head room [] ok)
           ∙ sym (passed room (le-ltb bytes leastBytes enough) (passed room (le-ltb (length room) roomSize (accepted-style (length room) head ok .3)) refl))
+
+-- ---- a compiled head, applied
+
+-- whatever the buffer's size
+pub compiled-applies : (head room plan : List ℕ) → checkedOf (length room) head ≡ accepted tt → (number : ℕ) (feature : List ℕ) (a : Arrays) →
+    length (a .0) ≡ spansSize → length (a .1) ≡ floatsSize → (out : List ℕ) →
+    (let answer = paintedOf (length out) (length room) head number feature in
+    appliedOf (compiled head room plan feature) number out a ≡ (answer, outAfter answer number out))
+compiled-applies head room plan ok number feature a spans floats out = by-size (ltb (length out) leastBytes) refl
+  where
+    by-size : (b : Bool) → ltb (length out) leastBytes ≡ b →
+        (let answer = paintedOf (length out) (length room) head number feature in
+        appliedOf (compiled head room plan feature) number out a ≡ (answer, outAfter answer number out))
+    by-size true e =
+        let h = ltb-true (length out) leastBytes e in
+        let short = short-answer (length out) room head number feature h in
+        sym (applied-short (compiled head room plan feature) number out a h .0) ∙ (λ i. (short i, outAfter (short i) number out))
+    by-size false e = compiled-applied head room plan ok number feature a spans floats out (ltb-false (length out) leastBytes e)

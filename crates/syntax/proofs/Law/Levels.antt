@@ -6,7 +6,7 @@ use Prim.Native.Nat.{ℕ, zero, suc, _+_, _<_, _≤_}
 use native.Mathlib.Omega.{arith}
 use lib.Dec.{eqb, ltb, leb}
 use lib.ListN.{length}
-use borrow.Author.Tests.{eq-eqb, ne-eqb, eqb-true, ltb-true, ltb-false, le-leb, lt-leb}
+use borrow.Author.Tests.{eq-eqb, ne-eqb, eqb-true, ltb-true, ltb-false}
 use Rattle.tree.specs.Tree.{Tree, literal, variable, unary, binary, bare, call, last, next}
 use Rattle.tree.specs.Slots.{Shape, between, root, lay, put, join, shapeOf, shapesOf, questionTag, colonTag, operatorTag, functionTag, variableTag, commaTag}
 use Rattle.syntax.specs.Symbol.{symbolAt, is, question, colon, comma, closeRound, end, isLiteral, formOf, isPrefix, precedenceOf, functionOf}

@@ -1,5 +1,5 @@
 -- Operators by their numbers: the ranges and numbers that the code compares are those of the spellings in `prefixes` and `operators`.
-use mathlib.Core.Path.{_≡_, refl, subst}
+use mathlib.Core.Path.{_≡_, refl}
 use mathlib.Core.Bool.{Bool, true, false, cond, not, _&&_, _||_, and-eq-true-iff, false≢true}
 use mathlib.Core.List.{[]}
 use Prim.Native.Nat.{ℕ, zero, suc, _<_, _≤_}
