@@ -74,15 +74,15 @@ module _ (s : Style) (line : List ℕ) where
   by-line : (l : Line) → lineOf (field line 0) ≡ l → admitsTo s l ≡ true → Read (itemBy l s line)
   unfolding propertyItem defineItem
   by-line word.Prop w ok =
-      tested (eqb (length (fields line)) 4) (length line)
+      tested (eqb (length (fields line)) 4) _
       (λ n. tested (isNew (map nameOf (s .properties)) (field line 1)) (fieldStart line 1)
       (λ new. on-type (typeOf (field line 2)) (fieldStart line 2) _ (λ t. on-flags (flagsOf (field line 3)) (fieldStart line 3) (field line 1) t w ok new)))
   by-line word.Define w ok =
-      tested (eqb (length (fields line)) 3) (length line)
+      tested (eqb (length (fields line)) 3) _
       (λ n. tested (isNew (map defineName (s .defines)) (field line 1)) (fieldStart line 1) (λ new. reads w (and-true (admitsTo s word.Define) _ ok new) (refl, omega (arith, count 3 n))))
-  by-line word.Show w ok = tested (eqb (length (fields line)) 2) (length line) (λ n. reads w (and-true (admitsTo s word.Show) _ ok refl) (refl, omega (arith, count 2 n)))
-  by-line word.Color w ok = tested (eqb (length (fields line)) 2) (length line) (λ n. reads w (and-true (admitsTo s word.Color) _ ok refl) (refl, omega (arith, count 2 n)))
-  by-line word.Cond w ok = tested (eqb (length (fields line)) 3) (length line) (λ n. reads w (and-true (admitsTo s word.Cond) _ ok refl) (refl, refl, omega (arith, count 3 n)))
+  by-line word.Show w ok = tested (eqb (length (fields line)) 2) _ (λ n. reads w (and-true (admitsTo s word.Show) _ ok refl) (refl, omega (arith, count 2 n)))
+  by-line word.Color w ok = tested (eqb (length (fields line)) 2) _ (λ n. reads w (and-true (admitsTo s word.Color) _ ok refl) (refl, omega (arith, count 2 n)))
+  by-line word.Cond w ok = tested (eqb (length (fields line)) 3) _ (λ n. reads w (and-true (admitsTo s word.Cond) _ ok refl) (refl, refl, omega (arith, count 3 n)))
   by-line word.Feat w ok = eight 0
   by-line word.Unknown w ok = eight 0
 
