@@ -13,25 +13,8 @@ use Rattle.number.specs.declared.decimal.Decimal.{Decimal}
 use Rattle.number.specs.declared.decimal.Decimal.the-variants as decimal
 use Rattle.lexer.specs.Bytes.{isSpace, isNameByte, isNameLength, inClass, run, begins, placeIn}
 use Rattle.lexer.specs.Punctuator.{spelledBy}
-use Rattle.lexer.specs.Token.{
-  literalWords,
-  Start,
-  quote,
-  dollar,
-  letter,
-  other,
-  startOf,
-  startingAt,
-  stringAt,
-  variableAt,
-  wordAt,
-  lexemeOf,
-  punctuatorAt,
-  otherAt,
-  numberOr,
-  firstAt,
-  lexemeAt,
-}
+use Rattle.lexer.specs.Token.{literalWords, Start, quote, dollar, letter, other, startOf, startingAt, stringAt, variableAt}
+use Rattle.lexer.specs.Token.{wordAt, lexemeOf, punctuatorAt, otherAt, numberOr, firstAt, lexemeAt}
 use Rattle.lexer.specs.declared.bytes.Class.the-variants.{Inside}
 use Rattle.lexer.specs.declared.punctuator.Spelled.{Spelled}
 use Rattle.lexer.specs.declared.punctuator.Spelled.the-variants.{Listed, Refused}

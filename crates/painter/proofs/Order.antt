@@ -105,8 +105,8 @@ module _ (bytes slots : ℕ) (head : List ℕ) (number : ℕ) (feature : List �
   module _ (enough : leastBytes ≤ bytes) (s : Style) (is : styleOf slots head ≡ accepted s) where
     feature-table : (j : Judged Values) → enteredOf (schemaOf s) number feature ≡ j →
         Table (onAccepted (onValues number j (givenOf s feature)) (λ given. accepted (writtenFor number given)))
-    feature-table (refused r) e = table.by-strip s enough is (ap (λ j. onFine j allConform) e)
-    feature-table (fine (broken vs p)) e = table.by-strip s enough is (ap (λ j. onFine j allConform) e)
+    feature-table (refused r) e = table.by-feature s enough is (ap (λ j. onFine j allConform) e)
+    feature-table (fine (broken vs p)) e = table.by-feature s enough is (ap (λ j. onFine j allConform) e)
     feature-table (fine (complete vs)) e = tt
 
   paint-table : Table (paintedOf bytes slots head number feature)
@@ -130,7 +130,7 @@ module _ (bytes slots : ℕ) (head : List ℕ) (number : ℕ) (feature : List �
   unfolding paintedOf
   call-refused (table.by-buffer h) = taken _ (lt-ltb bytes leastBytes h) refl
   call-refused (table.by-head enough t) = paint-style enough ∙ ap (λ x. onAccepted x (λ s. featured s number feature)) (style-refused slots head t)
-  call-refused {r = r} (table.by-strip s enough is f) =
+  call-refused {r = r} (table.by-feature s enough is f) =
       paint-style enough ∙ ap (λ x. onAccepted x (λ s. featured s number feature)) is ∙ go (enteredOf (schemaOf s) number feature) f
     where
       go : (j : Judged Values) → onFine j allConform ≡ refused r →

@@ -63,8 +63,8 @@ refused-for-kinds slots head n s c want text such = (
       let read = reached-schema head n (at .items) s c want text (at .gives) (at .is .reached) in
       (x, record { line = w; conforms = conforms-reads head small s read (w .number) (w .feature) .1 (w .values, w .reads) })),
   (λ w.
-      let (x, strip) = w in
-      let (p, at) = exactly x .1 (strip .line) in
+      let (x, made) = w in
+      let (p, at) = exactly x .1 (made .line) in
       let o : LineOrigin head n (refusalAt 7 p) = record { items = x .items; gives = x .gives; origin = record { style = s; scope = c; want = want; text = text; is = at } } in
       (p, check-refused slots head n (refusalAt 7 p) .1 (by-expression (x .room) (x .size) o), record { items = x .items; gives = x .gives; is = at })),
 )

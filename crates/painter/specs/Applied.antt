@@ -11,24 +11,8 @@ use lib.Seq.{slice}
 use Rattle.lexer.specs.Refusal.{Judged, refused, fine}
 use Rattle.value.specs.declared.value.Value.{Value}
 use Rattle.value.specs.declared.value.Value.the-variants.{Undefined}
-use Rattle.plan.specs.Layout.{
-  mostDefines,
-  mostConditions,
-  firstDefine,
-  showRow,
-  colourRow,
-  testRow,
-  resultRow,
-  expressions,
-  defineCount,
-  showCount,
-  colourCount,
-  conditionCount,
-  fromPlace,
-  toPlace,
-  rootPlace,
-  numberAt,
-}
+use Rattle.plan.specs.Layout.{mostDefines, mostConditions, firstDefine, showRow, colourRow, testRow, resultRow, expressions}
+use Rattle.plan.specs.Layout.{defineCount, showCount, colourCount, conditionCount, fromPlace, toPlace, rootPlace, numberAt}
 use Rattle.evaluator.specs.Values.{storedSpans, storedFloats}
 use Rattle.evaluator.specs.Eval.{valueIn}
 use Rattle.evaluator.specs.Arrays.{evalAt}

@@ -66,7 +66,7 @@ pub data HeadRefused (slots : ℕ) (head : List ℕ) : ℕ → Refusal → Type 
 pub data CallRefused (bytes slots : ℕ) (head : List ℕ) (number : ℕ) (feature : List ℕ) : ℕ → Refusal → Type 0 where
   by-buffer : bytes < leastBytes → CallRefused bytes slots head number feature 0 (refusalAt 10 0)
   by-head : {n : ℕ} {r : Refusal} → leastBytes ≤ bytes → HeadRefused slots head n r → CallRefused bytes slots head number feature n r
-  by-strip : {r : Refusal} (s : Style) →
+  by-feature : {r : Refusal} (s : Style) →
       leastBytes ≤ bytes →
       styleOf slots head ≡ accepted s →
       featureOf (schemaOf s) number feature ≡ refused r →
@@ -213,7 +213,7 @@ pub record SomeLineFails (s : Style) (want : Wanted) (text : List ℕ) (e : Tree
   pub failing : T (fails want (byItself s feature values text e))
 
 -- some line that conforms to the head's schema makes it fail
-pub record SomeStripFails (head : List ℕ) (s : Style) (want : Wanted) (text : List ℕ) (e : Tree) : Type 0 where
+pub record SomeConformingFails (head : List ℕ) (s : Style) (want : Wanted) (text : List ℕ) (e : Tree) : Type 0 where
   pub line : SomeLineFails s want text e
   pub conforms : ConformsTo (schemaText head) (line .number) (line .feature)
 
@@ -246,7 +246,7 @@ RefusedExactly =
     (slots : ℕ) (head : List ℕ) (n : ℕ) (s : Style) (c : Scope) (want : Wanted) (text : List ℕ) →
     ((x : Passes slots head n s c want text) → IsPlain c s text (x .tree)) →
     ((p : ℕ) × (checkedOf slots head ≡ refusal n (refusalAt 7 p)) × LineRefusedAs head n (refusalAt 7 p) s c want text)
-    ↔ ((x : Passes slots head n s c want text) × SomeStripFails head s want text (x .tree))
+    ↔ ((x : Passes slots head n s c want text) × SomeConformingFails head s want text (x .tree))
 
 -- ---- the program: `compile` once, and then `given` or `apply` for each strip
 

@@ -10,24 +10,8 @@ use Rattle.lexer.specs.Refusal.{Judged, refused, fine}
 use Rattle.kind.specs.Set.{singleOf}
 use Rattle.kind.specs.declared.kind.Kind.the-variants.{Undefined}
 use Rattle.kind.specs.declared.set.Kinds.{Kinds}
-use Rattle.plan.specs.Layout.{
-  firstDefine,
-  showRow,
-  colourRow,
-  testRow,
-  resultRow,
-  propertyCount,
-  defineCount,
-  showCount,
-  colourCount,
-  conditionCount,
-  counts,
-  setPlace,
-  fromPlace,
-  toPlace,
-  rootPlace,
-  planSize,
-}
+use Rattle.plan.specs.Layout.{firstDefine, showRow, colourRow, testRow, resultRow, propertyCount, defineCount, showCount, colourCount}
+use Rattle.plan.specs.Layout.{conditionCount, counts, setPlace, fromPlace, toPlace, rootPlace, planSize}
 use Rattle.tree.specs.Tree.{place}
 use Rattle.syntax.specs.Judge.{slotsAfter}
 use Rattle.checker.specs.Name.{resolvedSlots}

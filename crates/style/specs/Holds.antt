@@ -7,25 +7,9 @@ use lib.ListN.{length, getD}
 use lib.Seq.{slice}
 use Rattle.kind.specs.Set.{singleOf}
 use Rattle.kind.specs.declared.kind.Kind.the-variants.{Undefined}
-use Rattle.plan.specs.Layout.{
-  mostProperties,
-  mostDefines,
-  mostConditions,
-  firstDefine,
-  showRow,
-  colourRow,
-  testRow,
-  resultRow,
-  propertyCount,
-  defineCount,
-  showCount,
-  colourCount,
-  conditionCount,
-  fromPlace,
-  toPlace,
-  rootPlace,
-  planSize,
-}
+use Rattle.plan.specs.Layout.{mostProperties, mostDefines, mostConditions, firstDefine, showRow, colourRow, testRow, resultRow}
+use Rattle.plan.specs.Layout.{propertyCount, defineCount, showCount, colourCount, conditionCount, fromPlace, toPlace, rootPlace}
+use Rattle.plan.specs.Layout.{planSize}
 use Rattle.tree.specs.Tree.{place}
 use Rattle.syntax.specs.Judge.{slotsAfter}
 use Rattle.checker.specs.Name.{resolvedSlots}

@@ -10,24 +10,8 @@ use Rattle.lexer.specs.Refusal.{Judged, refused, fine, refusalAt, onFine}
 use Rattle.lexer.specs.declared.refusal.Refusal.{Refusal}
 use Rattle.kind.specs.declared.kind.Kind.{Kind}
 use Rattle.kind.specs.declared.set.Kinds.{Kinds}
-use Rattle.plan.specs.Layout.{
-  firstDefine,
-  undeclared,
-  startOf,
-  endOf,
-  showRow,
-  colourRow,
-  propertyCount,
-  defineCount,
-  showCount,
-  colourCount,
-  conditionCount,
-  setPlace,
-  fromPlace,
-  toPlace,
-  rootPlace,
-  numberAt,
-}
+use Rattle.plan.specs.Layout.{firstDefine, undeclared, startOf, endOf, showRow, colourRow, propertyCount, defineCount, showCount}
+use Rattle.plan.specs.Layout.{colourCount, conditionCount, setPlace, fromPlace, toPlace, rootPlace, numberAt}
 use Rattle.tree.specs.Tree.{place}
 use Rattle.syntax.specs.Judge.{slotsAfter}
 use Rattle.checker.specs.Name.{numberOf, resolvedSlots}

@@ -19,37 +19,9 @@ use Rattle.tree.proofs.Back.{Holds, holds-lay, holds-more, read-back}
 use Rattle.syntax.specs.Sizes.{mostBytes, mostHeight}
 use Rattle.syntax.specs.Symbol.{question, colon, openRound, closeRound, openSquare, closeSquare, comma, dot, word, end, symbolAt, is, isLiteral, formOf, isIndex, indexOf, isWord, isPrefix, precedenceOf, levels, hasPrecedence, functionOf, memberOf}
 use Rattle.syntax.specs.Symbol as symbol
-use Rattle.syntax.specs.Parser.{
-  Result,
-  part,
-  refused,
-  spent,
-  nothing,
-  andThen,
-  onPart,
-  ask,
-  onNext,
-  atEnd,
-  ended,
-  closed,
-  Branches,
-  branches,
-  chosen,
-  expressionFrom,
-  branchesFrom,
-  levelFrom,
-  tailFrom,
-  unaryFrom,
-  postfixFrom,
-  picksFrom,
-  primaryFrom,
-  callFrom,
-  argumentsFrom,
-  followed,
-  inText,
-  stepsFor,
-  parseOf,
-}
+use Rattle.syntax.specs.Parser.{Result, part, refused, spent, nothing, andThen, onPart, ask, onNext, atEnd, ended, closed}
+use Rattle.syntax.specs.Parser.{Branches, branches, chosen, expressionFrom, branchesFrom, levelFrom, tailFrom, unaryFrom}
+use Rattle.syntax.specs.Parser.{postfixFrom, picksFrom, primaryFrom, callFrom, argumentsFrom, followed, inText, stepsFor, parseOf}
 use Rattle.syntax.specs.Height.{heightOf}
 use Rattle.syntax.specs.Names.{unknownIn, leftmostOf}
 use Rattle.syntax.specs.Judge.{byNames, byHeight, byGrammar, byTokens, bySize, judgedOf, slotsAfter}

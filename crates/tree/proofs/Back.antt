@@ -7,43 +7,14 @@ use native.Mathlib.Omega.{arith}
 use lib.ListN.{length, getD, length-set, List·getD-append}
 use lib.Seq.{getD-set-same, getD-set-other}
 use Rattle.tree.specs.Tree.{Tree, literal, variable, unary, binary, conditional, bare, call, pick, place, Arguments, last, next}
-use Rattle.tree.specs.Slots.{
-  tags,
-  links,
-  word,
-  tagAt,
-  leftAt,
-  put,
-  join,
-  commaTag,
-  Shape,
-  leaf,
-  held,
-  before,
-  between,
-  after,
-  root,
-  lay,
-  shapeOf,
-  shapesOf,
-  store,
-}
+use Rattle.tree.specs.Slots.{tags, links, word, tagAt, leftAt, put, join, commaTag, Shape, leaf, held, before, between, after}
+use Rattle.tree.specs.Slots.{root, lay, shapeOf, shapesOf, store}
 use Rattle.tree.specs.Node.{nodeAt, argumentsAt, grown, mostCommas, treeAt}
 use Rattle.tree.specs.Fits.{Within, Known, KnownAll, allowed, pruned, prunedAll}
 use Rattle.tree.proofs.Law.Places.{root-within, root-shape, length-lay}
 use Rattle.tree.proofs.Law.Words.{tag-word, link-word, link-tag, join-other}
-use Rattle.tree.proofs.Law.Nodes.{
-  node-literal,
-  node-variable,
-  node-unary,
-  node-binary,
-  node-conditional,
-  node-bare,
-  node-call,
-  node-pick,
-  argument-next,
-  argument-last,
-}
+use Rattle.tree.proofs.Law.Nodes.{node-literal, node-variable, node-unary, node-binary, node-conditional, node-bare, node-call}
+use Rattle.tree.proofs.Law.Nodes.{node-pick, argument-next, argument-last}
 
 -- ---- the slots outside
 

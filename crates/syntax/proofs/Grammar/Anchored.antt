@@ -21,35 +21,10 @@ use Rattle.tree.specs.Tree as tree
 use Rattle.syntax.specs.Symbol.{question, colon, openRound, closeRound, openSquare, closeSquare, comma, dot, indices, numberOf, symbolAt}
 use Rattle.syntax.specs.Symbol.{is, isLiteral, formOf, isIndex, indexOf, isWord, precedenceOf, levels, hasPrecedence, functionOf, memberOf}
 use Rattle.syntax.specs.Symbol as symbol
-use Rattle.syntax.specs.Grammar.{
-  Nonterminal,
-  expression,
-  binary,
-  unary,
-  postfix,
-  primary,
-  arguments,
-  TreeOf,
-  ‹_›,
-  Derives,
-  expression-binary,
-  conditional,
-  binary-unary,
-  binary-lower,
-  binary-operation,
-  unary-postfix,
-  unary-operation,
-  postfix-primary,
-  member,
-  index,
-  literal,
-  variable,
-  bare,
-  call,
-  brackets,
-  last,
-  next,
-}
+use Rattle.syntax.specs.Grammar.{Nonterminal, expression, binary, unary, postfix, primary, arguments, TreeOf, ‹_›, Derives}
+use Rattle.syntax.specs.Grammar.{expression-binary, conditional, binary-unary, binary-lower, binary-operation, unary-postfix}
+use Rattle.syntax.specs.Grammar.{unary-operation, postfix-primary, member, index, literal, variable, bare, call, brackets, last}
+use Rattle.syntax.specs.Grammar.{next}
 use Rattle.syntax.specs.Place.{symbolIn, symbolsOf}
 use Rattle.syntax.specs.Names.{stringAt}
 use Rattle.syntax.specs.Judge.{judgedOf}

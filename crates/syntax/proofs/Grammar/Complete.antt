@@ -11,51 +11,12 @@ use Rattle.tree.specs.Tree.{Tree}
 use Rattle.tree.specs.Tree as tree
 use Rattle.syntax.specs.Symbol.{question, colon, openRound, closeRound, openSquare, closeSquare, comma, dot, word, is, isLiteral, isIndex, isWord, isPrefix, precedenceOf, levels, hasPrecedence}
 use Rattle.syntax.specs.Symbol as symbol
-use Rattle.syntax.specs.Grammar.{
-  Nonterminal,
-  expression,
-  binary,
-  unary,
-  postfix,
-  primary,
-  arguments,
-  TreeOf,
-  ‹_›,
-  Derives,
-  expression-binary,
-  conditional,
-  binary-unary,
-  binary-lower,
-  binary-operation,
-  unary-postfix,
-  unary-operation,
-  postfix-primary,
-  member,
-  index,
-  literal,
-  variable,
-  bare,
-  call,
-  brackets,
-  last,
-  next,
-}
-use Rattle.syntax.specs.Parser.{
-  Result,
-  part,
-  andThen,
-  ask,
-  expressionFrom,
-  branchesFrom,
-  levelFrom,
-  tailFrom,
-  unaryFrom,
-  postfixFrom,
-  picksFrom,
-  primaryFrom,
-  callFrom,
-  argumentsFrom,
-}
+use Rattle.syntax.specs.Grammar.{Nonterminal, expression, binary, unary, postfix, primary, arguments, TreeOf, ‹_›, Derives}
+use Rattle.syntax.specs.Grammar.{expression-binary, conditional, binary-unary, binary-lower, binary-operation, unary-postfix}
+use Rattle.syntax.specs.Grammar.{unary-operation, postfix-primary, member, index, literal, variable, bare, call, brackets, last}
+use Rattle.syntax.specs.Grammar.{next}
+use Rattle.syntax.specs.Parser.{Result, part, andThen, ask, expressionFrom, branchesFrom, levelFrom, tailFrom, unaryFrom}
+use Rattle.syntax.specs.Parser.{postfixFrom, picksFrom, primaryFrom, callFrom, argumentsFrom}
 use Rattle.syntax.specs.declared.symbol.Symbol.{Symbol}
 use Rattle.syntax.proofs.Law.Operators.{prefix-is}
 use Rattle.syntax.proofs.Law.Steps.{Gives, given, then-part}

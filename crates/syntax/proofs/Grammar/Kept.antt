@@ -7,28 +7,9 @@ use native.Mathlib.Omega.{arith}
 use Rattle.tree.specs.Tree.{Tree, Arguments, pick, binary}
 use Rattle.syntax.specs.Symbol.{question, colon, openRound, closeRound, openSquare, closeSquare, comma, dot, word, is, isLiteral, isIndex, indexOf, isWord, isPrefix, levels, hasPrecedence, memberOf}
 use Rattle.syntax.specs.Symbol as symbol
-use Rattle.syntax.specs.Parser.{
-  Result,
-  part,
-  refused,
-  nothing,
-  andThen,
-  ask,
-  atEnd,
-  closed,
-  Branches,
-  expressionFrom,
-  branchesFrom,
-  levelFrom,
-  tailFrom,
-  unaryFrom,
-  postfixFrom,
-  picksFrom,
-  primaryFrom,
-  callFrom,
-  argumentsFrom,
-  wholeFrom,
-}
+use Rattle.syntax.specs.Parser.{Result, part, refused, nothing, andThen, ask, atEnd, closed, Branches, expressionFrom}
+use Rattle.syntax.specs.Parser.{branchesFrom, levelFrom, tailFrom, unaryFrom, postfixFrom, picksFrom, primaryFrom, callFrom}
+use Rattle.syntax.specs.Parser.{argumentsFrom, wholeFrom}
 use Rattle.syntax.specs.declared.symbol.Symbol.{Symbol}
 
 -- as many steps, or more

@@ -8,29 +8,9 @@ use lib.ListN.{length}
 use Rattle.tree.specs.Tree.{Tree, pick, binary}
 use Rattle.syntax.specs.Symbol.{question, colon, openRound, closeRound, openSquare, closeSquare, comma, dot, word, is, isLiteral, isIndex, indexOf, isWord, isPrefix, levels, hasPrecedence, memberOf}
 use Rattle.syntax.specs.Symbol as symbol
-use Rattle.syntax.specs.Parser.{
-  Result,
-  part,
-  refused,
-  spent,
-  onPart,
-  andThen,
-  tested,
-  ask,
-  atEnd,
-  closed,
-  expressionFrom,
-  branchesFrom,
-  levelFrom,
-  tailFrom,
-  unaryFrom,
-  postfixFrom,
-  picksFrom,
-  primaryFrom,
-  callFrom,
-  argumentsFrom,
-  wholeFrom,
-}
+use Rattle.syntax.specs.Parser.{Result, part, refused, spent, onPart, andThen, tested, ask, atEnd, closed, expressionFrom}
+use Rattle.syntax.specs.Parser.{branchesFrom, levelFrom, tailFrom, unaryFrom, postfixFrom, picksFrom, primaryFrom, callFrom}
+use Rattle.syntax.specs.Parser.{argumentsFrom, wholeFrom}
 use Rattle.syntax.specs.declared.symbol.Symbol.{Symbol}
 use Rattle.syntax.proofs.Grammar.Lists.{Parser, uncons}
 

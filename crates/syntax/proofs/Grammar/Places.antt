@@ -7,34 +7,10 @@ use native.Mathlib.Omega.{arith}
 use Rattle.lexer.specs.Tokens.{Placed, placed}
 use Rattle.syntax.specs.Symbol.{question, colon, openRound, closeRound, openSquare, closeSquare, comma, dot, word, numberOf, is, isLiteral, isIndex, isWord, isPrefix, levels, hasPrecedence}
 use Rattle.syntax.specs.Symbol as symbol
-use Rattle.syntax.specs.Grammar.{
-  Nonterminal,
-  expression,
-  binary,
-  postfix,
-  primary,
-  arguments,
-  TreeOf,
-  ‹_›,
-  Derives,
-  expression-binary,
-  conditional,
-  binary-unary,
-  binary-lower,
-  binary-operation,
-  unary-postfix,
-  unary-operation,
-  postfix-primary,
-  member,
-  index,
-  literal,
-  variable,
-  bare,
-  call,
-  brackets,
-  last,
-  next,
-}
+use Rattle.syntax.specs.Grammar.{Nonterminal, expression, binary, postfix, primary, arguments, TreeOf, ‹_›, Derives}
+use Rattle.syntax.specs.Grammar.{expression-binary, conditional, binary-unary, binary-lower, binary-operation, unary-postfix}
+use Rattle.syntax.specs.Grammar.{unary-operation, postfix-primary, member, index, literal, variable, bare, call, brackets, last}
+use Rattle.syntax.specs.Grammar.{next}
 use Rattle.syntax.specs.Place.{symbolsOf, numbersOf, Right, Begins}
 use Rattle.syntax.specs.declared.symbol.Symbol.{Symbol}
 use Rattle.syntax.proofs.Grammar.Lists.{made, by-number, Each, each-none, each-more, Cut, cut, cutting, Joined, joined, joining}

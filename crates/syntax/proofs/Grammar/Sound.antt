@@ -10,60 +10,13 @@ use Rattle.tree.specs.Tree.{Tree, Arguments}
 use Rattle.tree.specs.Tree as tree
 use Rattle.syntax.specs.Symbol.{question, colon, openRound, closeRound, openSquare, closeSquare, comma, dot, word, seen, is, isLiteral, isIndex, isWord, isPrefix, levels, hasPrecedence, functionOf}
 use Rattle.syntax.specs.Symbol as symbol
-use Rattle.syntax.specs.Grammar.{
-  expression,
-  binary,
-  unary,
-  postfix,
-  primary,
-  arguments,
-  ‹_›,
-  Derives,
-  expression-binary,
-  conditional,
-  binary-unary,
-  binary-lower,
-  binary-operation,
-  unary-postfix,
-  unary-operation,
-  postfix-primary,
-  member,
-  index,
-  literal,
-  variable,
-  bare,
-  call,
-  brackets,
-  last,
-  next,
-}
+use Rattle.syntax.specs.Grammar.{expression, binary, unary, postfix, primary, arguments, ‹_›, Derives, expression-binary}
+use Rattle.syntax.specs.Grammar.{conditional, binary-unary, binary-lower, binary-operation, unary-postfix, unary-operation}
+use Rattle.syntax.specs.Grammar.{postfix-primary, member, index, literal, variable, bare, call, brackets, last, next}
 use Rattle.syntax.specs.Place.{symbolsOf}
-use Rattle.syntax.specs.Parser.{
-  Result,
-  part,
-  refused,
-  spent,
-  nothing,
-  onPart,
-  andThen,
-  tested,
-  ask,
-  expect,
-  atEnd,
-  Branches,
-  branches,
-  chosen,
-  expressionFrom,
-  branchesFrom,
-  levelFrom,
-  tailFrom,
-  unaryFrom,
-  postfixFrom,
-  picksFrom,
-  primaryFrom,
-  callFrom,
-  argumentsFrom,
-}
+use Rattle.syntax.specs.Parser.{Result, part, refused, spent, nothing, onPart, andThen, tested, ask, expect, atEnd, Branches}
+use Rattle.syntax.specs.Parser.{branches, chosen, expressionFrom, branchesFrom, levelFrom, tailFrom, unaryFrom, postfixFrom}
+use Rattle.syntax.specs.Parser.{picksFrom, primaryFrom, callFrom, argumentsFrom}
 use Rattle.syntax.specs.declared.symbol.Symbol.{Symbol}
 use Rattle.syntax.proofs.Grammar.Lists.{Parser, uncons}
 

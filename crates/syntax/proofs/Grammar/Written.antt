@@ -21,29 +21,9 @@ use Rattle.lexer.proofs.Munch.{munch}
 use Rattle.lexer.proofs.Parted.{Spelled, done, more, parted}
 use Rattle.syntax.specs.Symbol.{question, colon, openRound, closeRound, openSquare, closeSquare, comma, dot, word, numberOf, symbolOf, symbolAt}
 use Rattle.syntax.specs.Symbol as symbol
-use Rattle.syntax.specs.Grammar.{
-  Nonterminal,
-  TreeOf,
-  ‹_›,
-  Derives,
-  expression-binary,
-  conditional,
-  binary-unary,
-  binary-lower,
-  binary-operation,
-  unary-postfix,
-  unary-operation,
-  postfix-primary,
-  member,
-  index,
-  literal,
-  variable,
-  bare,
-  call,
-  brackets,
-  last,
-  next,
-}
+use Rattle.syntax.specs.Grammar.{Nonterminal, TreeOf, ‹_›, Derives, expression-binary, conditional, binary-unary, binary-lower}
+use Rattle.syntax.specs.Grammar.{binary-operation, unary-postfix, unary-operation, postfix-primary, member, index, literal}
+use Rattle.syntax.specs.Grammar.{variable, bare, call, brackets, last, next}
 use Rattle.syntax.specs.Place.{symbolsOf, numbersOf, Right, Begins, RightText}
 use Rattle.syntax.specs.declared.symbol.Symbol.{Symbol}
 use Rattle.syntax.proofs.Laid.{low-is, low-literal, low-index, low-word, low-prefix, low-operator}

@@ -10,50 +10,11 @@ use borrow.Author.Tests.{eq-eqb, ne-eqb, eqb-true, ltb-true, ltb-false}
 use Rattle.tree.specs.Tree.{Tree, literal, variable, unary, binary, bare, call, last, next}
 use Rattle.tree.specs.Slots.{Shape, between, root, lay, put, join, shapeOf, shapesOf, questionTag, colonTag, operatorTag, functionTag, variableTag, commaTag}
 use Rattle.syntax.specs.Symbol.{symbolAt, is, question, colon, comma, closeRound, end, isLiteral, formOf, isPrefix, precedenceOf, functionOf}
-use Rattle.syntax.specs.Parser.{
-  Result,
-  part,
-  refused,
-  andThen,
-  ask,
-  closed,
-  Branches,
-  branches,
-  chosen,
-  inText,
-  expressionFrom,
-  branchesFrom,
-  levelFrom,
-  tailFrom,
-  unaryFrom,
-  postfixFrom,
-  picksFrom,
-  primaryFrom,
-  callFrom,
-  argumentsFrom,
-}
-use Rattle.syntax.specs.Inner.{
-  Sound,
-  Follows,
-  Goes,
-  Good,
-  Agrees,
-  Ahead,
-  ParsedBy,
-  steps,
-  branchesShape,
-  ExpressionBy,
-  BranchesBy,
-  LevelBy,
-  TailBy,
-  UnaryBy,
-  PostfixBy,
-  PicksBy,
-  PrimaryBy,
-  CallBy,
-  ArgumentsBy,
-  closedOf,
-}
+use Rattle.syntax.specs.Parser.{Result, part, refused, andThen, ask, closed, Branches, branches, chosen, inText, expressionFrom}
+use Rattle.syntax.specs.Parser.{branchesFrom, levelFrom, tailFrom, unaryFrom, postfixFrom, picksFrom, primaryFrom, callFrom}
+use Rattle.syntax.specs.Parser.{argumentsFrom}
+use Rattle.syntax.specs.Inner.{Sound, Follows, Goes, Good, Agrees, Ahead, ParsedBy, steps, branchesShape, ExpressionBy}
+use Rattle.syntax.specs.Inner.{BranchesBy, LevelBy, TailBy, UnaryBy, PostfixBy, PicksBy, PrimaryBy, CallBy, ArgumentsBy, closedOf}
 use Rattle.syntax.specs.declared.symbol.Symbol.{Symbol}
 use Rattle.syntax.specs.declared.parse.Parsed.{Parsed}
 use Rattle.syntax.specs.declared.parse.Parsed.the-variants as parsed

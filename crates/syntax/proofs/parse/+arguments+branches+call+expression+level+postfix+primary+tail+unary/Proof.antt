@@ -45,12 +45,8 @@ use Rattle.tree.proofs.write.conditional.Reads as conditional-reads
 use Rattle.tree.proofs.write.literal.Reads as literal-reads
 use Rattle.tree.proofs.write.unary.Reads as unary-reads
 use Rattle.tree.proofs.write.variable.Reads as variable-reads
-use Rattle.syntax.proofs.parse.+arguments+branches+call+expression+level+postfix+primary+tail+unary.{
-  statement,
-}
-use Rattle.syntax.proofs.parse.+arguments+branches+call+expression+level+postfix+primary+tail+unary.Tie.{
-  close,
-}
+use Rattle.syntax.proofs.parse.+arguments+branches+call+expression+level+postfix+primary+tail+unary.{statement}
+use Rattle.syntax.proofs.parse.+arguments+branches+call+expression+level+postfix+primary+tail+unary.Tie.{close}
 use borrow.Author.Needs.{needs}
 use Prim.Native.Nat.{_+_}
 use borrow.Author.Tests.{not-true, not-false}
