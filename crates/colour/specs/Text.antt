@@ -56,13 +56,13 @@ colourAt n = first (drop n basics)
 -- ---- hex digits
 
 -- the place of a byte in a text, or how long the text is
-abbrev pub placeOf : List ℕ → ℕ → ℕ
-placeOf [] b = 0
-placeOf (c ∷ cs) b = cond (eqb b c) 0 (suc (placeOf cs b))
+abbrev pub bytePlace : List ℕ → ℕ → ℕ
+bytePlace [] b = 0
+bytePlace (c ∷ cs) b = cond (eqb b c) 0 (suc (bytePlace cs b))
 
 -- the value of a hex digit, in "any letter case", is its place among them all
 abbrev pub hexValue : ℕ → ℕ
-hexValue b = placeOf (ascii "0123456789abcdef") (folded true b)
+hexValue b = bytePlace (ascii "0123456789abcdef") (folded true b)
 
 -- three digits, each of which stands for two
 unfoldable pub shortHex : ℕ → ℕ → ℕ → Named

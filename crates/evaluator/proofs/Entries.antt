@@ -19,15 +19,15 @@ use Rattle.checker.specs.Operator.{prefixAt, infixAt}
 use Rattle.evaluator.specs.Eval.{isFault, valueIn, someFault, applied, branchOf, booleanOf, needOf, binaryBy, cameTo, needsRight, Context, evalOf, evalOfAll}
 use Rattle.evaluator.specs.declared.need.Need.{Need}
 use Rattle.evaluator.specs.declared.need.Need.the-variants.{Both, UntilTrue, UntilFalse}
-use Rattle.evaluator.specs.Entries.{Entry, enteredIf, entriesOf, entriesOfAll, NoneFaults}
+use Rattle.evaluator.specs.Entries.{Entered, enteredIf, entriesOf, entriesOfAll, NoneFaults}
 
 -- ---- lists of entries
 
-pub none-joined : (xs ys : List Entry) → NoneFaults xs → NoneFaults ys → NoneFaults (xs ++ ys)
+pub none-joined : (xs ys : List Entered) → NoneFaults xs → NoneFaults ys → NoneFaults (xs ++ ys)
 none-joined [] ys f g = g
 none-joined (x ∷ xs) ys f g = (f .0, none-joined xs ys (f .1) g)
 
-none-if : (b : Bool) (xs : List Entry) → (b ≡ true → NoneFaults xs) → NoneFaults (enteredIf b xs)
+none-if : (b : Bool) (xs : List Entered) → (b ≡ true → NoneFaults xs) → NoneFaults (enteredIf b xs)
 none-if true xs h = h refl
 none-if false xs h = tt
 
@@ -90,7 +90,7 @@ sides-fine UntilFalse text found l r h =
 
 -- ---- an expression
 
-module _ (c : Context) (naming : ℕ → ℕ → List Entry) (named : (p n : ℕ) → isFault (c .variables p n) ≡ false → NoneFaults (naming p n)) where
+module _ (c : Context) (naming : ℕ → ℕ → List Entered) (named : (p n : ℕ) → isFault (c .variables p n) ≡ false → NoneFaults (naming p n)) where
   -- of the part of a node that has one
   part-fine : (found : Found) (e : Tree) → isFault (applied (c .text) found (evalOf c e ∷ [])) ≡ false → isFault (evalOf c e) ≡ false
   part-fine found e h = no-first (isFault (evalOf c e)) false (applied-fine (c .text) found (evalOf c e ∷ []) h)

@@ -10,39 +10,39 @@ use Rattle.tree.specs.Tree.{Tree, literal, variable, unary, binary, conditional
 use Rattle.checker.specs.Operator.{infixAt}
 use Rattle.evaluator.specs.Eval.{isFault, needOf, cameTo, needsRight, Context, evalOf}
 
-pub record Entry : Type 0 where
+pub record Entered : Type 0 where
   pub node : Tree
   pub outcome : Outcome
 
 -- of a part that may be passed over
-abbrev pub enteredIf : Bool → List Entry → List Entry
+abbrev pub enteredIf : Bool → List Entered → List Entered
 enteredIf true es = es
 enteredIf false es = []
 
 -- What is entered where a variable is named stands behind it, by its place and its number: a define has nodes of its own.
-module _ (c : Context) (naming : ℕ → ℕ → List Entry) where
-  abbrev pub entry : Tree → Entry
-  entry e = record { node = e; outcome = evalOf c e }
+module _ (c : Context) (naming : ℕ → ℕ → List Entered) where
+  abbrev pub entered : Tree → Entered
+  entered e = record { node = e; outcome = evalOf c e }
 
   unfoldable mutual
-    pub entriesOf : Tree → List Entry
-    entriesOf (literal p k) = entry (literal p k) ∷ []
-    entriesOf (variable p n) = entry (variable p n) ∷ naming p n
-    entriesOf (unary p o e) = entry (unary p o e) ∷ entriesOf e
+    pub entriesOf : Tree → List Entered
+    entriesOf (literal p k) = entered (literal p k) ∷ []
+    entriesOf (variable p n) = entered (variable p n) ∷ naming p n
+    entriesOf (unary p o e) = entered (unary p o e) ∷ entriesOf e
     entriesOf (binary p o l r) =
-        entry (binary p o l r) ∷ (entriesOf l ++ enteredIf (needsRight (needOf (infixAt o)) (evalOf c l)) (entriesOf r))
+        entered (binary p o l r) ∷ (entriesOf l ++ enteredIf (needsRight (needOf (infixAt o)) (evalOf c l)) (entriesOf r))
     entriesOf (conditional p q t a b) =
-        entry (conditional p q t a b)
+        entered (conditional p q t a b)
         ∷ (entriesOf t ++ (enteredIf (cameTo true (evalOf c t)) (entriesOf a) ++ enteredIf (cameTo false (evalOf c t)) (entriesOf b)))
-    entriesOf (bare p f) = entry (bare p f) ∷ []
-    entriesOf (call p f xs) = entry (call p f xs) ∷ entriesOfAll xs
-    entriesOf (pick p i e) = entry (pick p i e) ∷ entriesOf e
+    entriesOf (bare p f) = entered (bare p f) ∷ []
+    entriesOf (call p f xs) = entered (call p f xs) ∷ entriesOfAll xs
+    entriesOf (pick p i e) = entered (pick p i e) ∷ entriesOf e
 
-    pub entriesOfAll : Arguments → List Entry
+    pub entriesOfAll : Arguments → List Entered
     entriesOfAll (last e) = entriesOf e
     entriesOfAll (next e q xs) = entriesOf e ++ entriesOfAll xs
 
 -- none of them faults: "to meet a kind or count not taken is what this page calls a fault"
-abbrev pub NoneFaults : List Entry → Type 0
+abbrev pub NoneFaults : List Entered → Type 0
 NoneFaults [] = Unit {0}
 NoneFaults (x ∷ xs) = (isFault (x .outcome) ≡ false) × NoneFaults xs
