@@ -211,22 +211,16 @@ fn all_kinds(
     ensures { result ≡ with_all before (kinds_of_all (λ p n. set_at plan.now n)
         (arguments_at (tree_at allowance slots.now) commas slots.now at)) }
 {
-    let mut known = before;
-    let mut here = at;
-    let mut left = commas;
-    while 0 < left {
-        match argument_at(slots, here) {
-            Argument::Last => {
-                return with_one(known, kinds(slots, plan, here, allowance));
-            }
-            Argument::Next { first, rest } => {
-                known = with_one(known, kinds(slots, plan, first, allowance));
-                here = rest;
-            }
-        }
-        left -= 1;
+    if commas == 0 {
+        return with_one(before, kinds(slots, plan, at, allowance));
     }
-    with_one(known, kinds(slots, plan, here, allowance))
+    match argument_at(slots, at) {
+        Argument::Last => with_one(before, kinds(slots, plan, at, allowance)),
+        Argument::Next { first, rest } => {
+            let known = with_one(before, kinds(slots, plan, first, allowance));
+            all_kinds(slots, plan, rest, allowance, commas - 1, known)
+        }
+    }
 }
 
 // ---- the result

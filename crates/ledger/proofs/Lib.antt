@@ -1,2 +1,2 @@
-pub mod Kept
-pub mod Turns
+-- What the functions' proofs lean on
+pub mod Parts

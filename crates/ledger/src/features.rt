@@ -1,85 +1,246 @@
-// The features, block by block.
-ghost use Rattle.std.specs.Prelude.{◌≡◌, true, suc, ◌+◌, ◌≤◌, length};
-ghost use Rattle.feature.specs.Feature.{feature_size};
-ghost use Rattle.blocks.specs.Ledger.{last_number};
+// The lines of the features, each with its number.
+ghost use Rattle.std.specs.Prelude.{◌≤◌, length};
 
 use crate::{input, writer};
-use blocks::features::{LAST, lines};
-use output::line::LONGEST;
-use output::page;
-use plan::layout::Plan;
+use painter::given::given;
+use painter::print;
+use plan::layout::{FLOATS, Floats, Plan, SPANS, Spans};
+use text::part;
 
-// Larger ones are no faster, and the stack is small.
-const BLOCK: usize = 16384;
+// The first number that is refused. The output ends with its line.
+const LAST: usize = 1_000_000;
 
-const OUTPUT: usize = 8192;
+// A line that is longer is refused, whatever else it has.
+const MOST_BYTES: usize = 4096;
 
 // No input has as many. Nothing says that it ends, so the loop that reads it counts.
 const MOST_BLOCKS: u64 = 0x1_0000_0000_0000;
 
-// How far the features are printed.
+// How far the lines of a block are done.
 #[derive(Drop)]
-struct Printed {
-    // Where those bytes of the block begin that are left.
+struct Progress {
+    // Where those begin that are left.
     pub at: usize,
-    // The number of the next feature.
+    // The number of the next.
     pub number: usize,
-    // Whether no write has failed.
-    pub sound: bool,
+    // How many bytes of the output wait to be written.
+    pub waiting: usize,
+    // Whether the block begins inside a line that is done, because it was too long.
+    pub inside: bool,
+    // Whether the input ends with the block.
+    pub input_ends: bool,
 }
 
-// Prints the lines of a block, and goes on as often as the output was full.
-fn print_block(
+// The length of a feature's line, which is written at the front.
+fn line(
     head: &[u8],
     plan: &Plan,
-    room: &[u16],
-    block: &[u8],
-    first: usize,
-    ends: bool,
-) -> Printed
-    ensures at { result.at ≤ length block.now }
-    ensures left { result.sound ≡ true → result.number ≤ last_number → length block.now ≤ result.at + suc feature_size }
+    slots: &[u16],
+    feature: &[u8],
+    number: usize,
+    out: &mut [u8],
+    spans: &mut Spans,
+    floats: &mut Floats,
+) -> usize
+    ensures { result ≤ length out.old }
 {
-    let mut out = [0u8; OUTPUT];
-    let mut p = Printed {
-        at: 0,
-        number: first,
-        sound: true,
-    };
-    let mut full = true;
-    while full & p.sound {
-        let at = p.at;
-        let q = lines(head, plan, room, &block[at..], p.number, ends, &mut out);
-        let printed = q.printed;
-        let sound = writer::write(p.sound, &out[..printed]);
-        p = Printed {
-            at: at + q.at,
-            number: q.number,
-            sound,
-        };
-        full = OUTPUT < printed + LONGEST;
-    }
-    p
+    let drawn = given(head, plan, slots, feature, number, spans, floats);
+    print::line(drawn, number, out)
 }
 
-// The features from the first on, of which some bytes are read already.
-pub(crate) fn print(head: &[u8], plan: &Plan, room: &[u16], first: &[u8], ends: bool) {
-    let mut p = print_block(head, plan, room, first, 1, ends);
-    let mut block = [0u8; BLOCK];
-    let at = p.at;
-    let mut held = page::text(&mut block, 0, &first[at..]);
-    let mut over = ends;
-    for _ in 0..MOST_BLOCKS {
-        if over | !p.sound | (LAST < p.number) {
-            return;
+// How many bytes wait with the next line behind the others.
+fn add(
+    head: &[u8],
+    plan: &Plan,
+    slots: &[u16],
+    feature: &[u8],
+    out: &mut [u8],
+    spans: &mut Spans,
+    floats: &mut Floats,
+    p: Progress,
+) -> usize
+    requires { p.waiting ≤ length out.old }
+    ensures { result ≤ length out.old }
+{
+    let at = writer::place(out, p.waiting);
+    at + line(
+        head,
+        plan,
+        slots,
+        feature,
+        p.number,
+        &mut out[at..],
+        spans,
+        floats,
+    )
+}
+
+// Passes over the rest of a line that is done.
+fn begin(block: &[u8], p: Progress) -> Progress
+    ensures at { result.at ≤ length block.now }
+    ensures waiting { result.waiting ≤ p.waiting }
+{
+    let mut at = 0;
+    let mut inside = p.inside;
+    if inside {
+        at = part::end(part::LINE_FEED, block, 0);
+        if at < block.len() {
+            at += 1;
+            inside = false;
         }
-        let read = input::read(&mut block, held);
-        if read.failed {
-            return;
-        }
-        let end = read.held;
-        over = read.ends;
-        p = print_block(head, plan, room, &block[..end], p.number, over);
-        held = input::keep(&mut block, p.at, end);
     }
+    Progress {
+        at,
+        number: p.number,
+        waiting: p.waiting,
+        inside,
+        input_ends: p.input_ends,
+    }
+}
+
+// The lines that an LF ends.
+fn ended_lines(
+    head: &[u8],
+    plan: &Plan,
+    slots: &[u16],
+    block: &[u8],
+    out: &mut [u8],
+    spans: &mut Spans,
+    floats: &mut Floats,
+    p: Progress,
+) -> Progress
+    requires at { p.at ≤ length block.now }
+    requires waiting { p.waiting ≤ length out.old }
+    ensures at { result.at ≤ length block.now }
+    ensures waiting { result.waiting ≤ length out.old }
+{
+    let mut q = p;
+    while q.number <= LAST {
+        let at = q.at;
+        let end = part::end(part::LINE_FEED, block, at);
+        if block.len() <= end {
+            break;
+        }
+        let waiting = add(head, plan, slots, &block[at..end], out, spans, floats, q);
+        q.at = end + 1;
+        q.number += 1;
+        q.waiting = waiting;
+    }
+    q
+}
+
+// The bytes behind the last LF as a line.
+fn last_line(
+    head: &[u8],
+    plan: &Plan,
+    slots: &[u16],
+    block: &[u8],
+    out: &mut [u8],
+    spans: &mut Spans,
+    floats: &mut Floats,
+    p: Progress,
+) -> Progress
+    requires at { p.at ≤ length block.now }
+    requires number { p.number ≤ 1000000 }
+    requires waiting { p.waiting ≤ length out.old }
+    ensures at { result.at ≤ length block.now }
+    ensures waiting { result.waiting ≤ length out.old }
+{
+    let at = p.at;
+    let waiting = add(head, plan, slots, &block[at..], out, spans, floats, p);
+    Progress {
+        at: block.len(),
+        number: p.number + 1,
+        waiting,
+        inside: true,
+        input_ends: p.input_ends,
+    }
+}
+
+// The lines of a block. The last, which no LF ends, is one of them if the input ends with the block,
+// or if it is too long already.
+fn lines(
+    head: &[u8],
+    plan: &Plan,
+    slots: &[u16],
+    block: &[u8],
+    out: &mut [u8],
+    spans: &mut Spans,
+    floats: &mut Floats,
+    p: Progress,
+) -> Progress
+    requires { p.waiting ≤ length out.old }
+    ensures at { result.at ≤ length block.now }
+    ensures waiting { result.waiting ≤ length out.old }
+{
+    let q = ended_lines(
+        head,
+        plan,
+        slots,
+        block,
+        out,
+        spans,
+        floats,
+        begin(block, p),
+    );
+    let left = block.len() - q.at;
+    if q.number <= LAST {
+        if (p.input_ends & (0 < left)) | (MOST_BYTES < left) {
+            return last_line(head, plan, slots, block, out, spans, floats, q);
+        }
+    }
+    q
+}
+
+// The lines of all features, of which the block holds the first bytes already. Gives how many bytes
+// of the output wait.
+fn all_lines(
+    head: &[u8],
+    plan: &Plan,
+    slots: &[u16],
+    block: &mut [u8],
+    held: usize,
+    out: &mut [u8],
+    spans: &mut Spans,
+    floats: &mut Floats,
+) -> usize
+    requires { held ≤ length block.old }
+    ensures { result ≤ length out.old }
+{
+    let mut kept = held;
+    let mut p = Progress {
+        at: 0,
+        number: 1,
+        waiting: 0,
+        inside: false,
+        input_ends: false,
+    };
+    for _ in 0..MOST_BLOCKS {
+        let end = input::fill(block, kept);
+        let input_ends = end < block.len();
+        p.input_ends = input_ends;
+        p = lines(head, plan, slots, &block[..end], out, spans, floats, p);
+        if input_ends | (LAST < p.number) {
+            return p.waiting;
+        }
+        kept = input::keep(block, p.at);
+    }
+    p.waiting
+}
+
+// The arrays for the values of a feature are lent to each in turn.
+pub(crate) fn print(
+    head: &[u8],
+    plan: &Plan,
+    slots: &[u16],
+    block: &mut [u8],
+    held: usize,
+    out: &mut [u8],
+)
+    requires { held ≤ length block.old }
+{
+    let mut spans = [0usize; SPANS];
+    let mut floats = [0.0f64; FLOATS];
+    let waiting = all_lines(head, plan, slots, block, held, out, &mut spans, &mut floats);
+    writer::text(&out[..waiting]);
 }

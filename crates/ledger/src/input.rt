@@ -1,62 +1,39 @@
-// Standard input.
-ghost use Rattle.std.specs.Prelude.{◌≡◌, false, ◌-◌, ◌≤◌, ◌<◌, length};
+// Standard input, read in large blocks.
+ghost use Rattle.std.specs.Prelude.{◌≤◌, length};
 
-use crate::error;
 use libc::STDIN_FILENO;
 
-// What a read leaves.
-#[derive(Drop)]
-pub(crate) struct Reading {
-    // How many bytes a room holds now.
-    pub held: usize,
-    // Whether no more come.
-    pub ends: bool,
-    // Whether that is because the read failed.
-    pub failed: bool,
-}
-
-// One read into a room, behind the bytes that it holds already.
-pub(crate) fn read(room: &mut [u8], held: usize) -> Reading
-    requires { held < length room.old }
-    ensures inside { (held ≤ result.held) × (result.held ≤ length room.old) }
-    ensures more { result.ends ≡ false → held < result.held }
+fn read(room: &mut [u8]) -> usize
+    ensures { result ≤ length room.old }
 {
-    for _ in 0..error::MOST_TRIES {
-        let got = libc::read(STDIN_FILENO, &mut room[held..]);
-        let more = io::count(got, &room[held..]);
-        if 0 < more {
-            return Reading {
-                held: held + more,
-                ends: false,
-                failed: false,
-            };
-        }
-        if got == 0 {
-            return Reading {
-                held,
-                ends: true,
-                failed: false,
-            };
-        }
-        if !error::passes(b"ledger: standard input") {
-            break;
-        }
-    }
-    Reading {
-        held,
-        ends: true,
-        failed: true,
-    }
+    let got = libc::read(STDIN_FILENO, room);
+    io::count(got, room)
 }
 
-// Moves what a block holds from a place on to its front, and gives how many bytes these are.
-pub(crate) fn keep(block: &mut [u8], from: usize, held: usize) -> usize
-    requires { held ≤ length block.old }
-    ensures { result ≡ held - from }
+// Reads behind the bytes that the room holds already, until it is full or the input ends.
+pub(crate) fn fill(room: &mut [u8], held: usize) -> usize
+    requires { held ≤ length room.old }
+    ensures { result ≤ length room.old }
+{
+    let mut end = held;
+    while end < room.len() {
+        let more = read(&mut room[end..]);
+        if more == 0 {
+            return end;
+        }
+        end += more;
+    }
+    end
+}
+
+// Moves what a block has from a place on to its front, and gives how many bytes these are.
+pub(crate) fn keep(block: &mut [u8], from: usize) -> usize
+    requires { from ≤ length block.old }
+    ensures { result ≤ length block.old }
 {
     let mut at = from;
     let mut kept = 0;
-    while at < held {
+    while at < block.len() {
         block[kept] = block[at];
         at += 1;
         kept += 1;

@@ -1,76 +1,48 @@
 // Reads a style and its features from standard input, and prints a line for each feature.
-mod error;
 mod features;
 mod input;
 mod writer;
 
-ghost use Rattle.std.specs.Prelude.{◌≤◌, length};
-
-use blocks::opening::search;
-use input::Reading;
-use output::line::{LONGEST, heading_line, refused_head};
-use plan::layout::PLAN;
+use output::line::{LONGEST, refused_head};
+use output::page;
+use plan::layout::{PLAN, Plan};
 use style::check::{Checked, LineRefusal};
 use style::head::{ROOM_SIZE, compile};
 use text::head::head_end;
 
-// More bytes than a head may have, and those of a line behind it.
-const WINDOW: usize = 36864;
+// More bytes than a head may have, so that one that is too long is seen to be.
+const WINDOW: usize = 65536;
 
-fn print_heading() -> bool {
-    let mut line = [0u8; LONGEST];
-    let end = heading_line(&mut line);
-    writer::write(true, &line[..end])
-}
+// More than the window has, so that what it holds of the features fits.
+const BLOCK: usize = 131072;
 
 fn print_refusal(r: LineRefusal) {
     let mut line = [0u8; LONGEST];
     let end = refused_head(&mut line, r.refusal.number, r.line, r.refusal.place);
-    writer::write(true, &line[..end]);
+    writer::text(&line[..end]);
 }
 
-// Reads until a feature's line is whole, the window is full or the input ends.
-fn open(window: &mut [u8]) -> Reading
-    ensures { result.held ≤ length window.old }
-{
-    let mut from = 0;
-    let mut held = 0;
-    while held < window.len() {
-        let read = input::read(window, held);
-        if read.ends {
-            return read;
-        }
-        held = read.held;
-        let head = search(&window[..held], from);
-        if head.found {
-            return read;
-        }
-        from = head.at;
-    }
-    Reading {
-        held,
-        ends: false,
-        failed: false,
-    }
+// Lends the blocks of the input and of the output. The first bytes of the features are read already.
+fn print_features(head: &[u8], plan: &Plan, slots: &[u16], first: &[u8]) {
+    let mut block = [0u8; BLOCK];
+    let mut out = [0u8; BLOCK];
+    let held = page::text(&mut block, 0, first);
+    features::print(head, plan, slots, &mut block, held, &mut out);
 }
 
-fn print(window: &[u8], ends: bool) {
+fn print(window: &[u8]) {
     let end = head_end(window);
-    let mut room = [0u16; ROOM_SIZE];
+    let mut slots = [0u16; ROOM_SIZE];
     let mut plan = [0u16; PLAN];
-    match compile(&window[..end], &mut plan, &mut room) {
+    match compile(&window[..end], &mut plan, &mut slots) {
         Checked::Refused(r) => print_refusal(r),
-        Checked::Accepted => features::print(&window[..end], &plan, &room, &window[end..], ends),
+        Checked::Accepted => print_features(&window[..end], &plan, &slots, &window[end..]),
     }
 }
 
 fn main() {
     let mut window = [0u8; WINDOW];
-    if print_heading() {
-        let read = open(&mut window);
-        let held = read.held;
-        if !read.failed {
-            print(&window[..held], read.ends);
-        }
-    }
+    let held = input::fill(&mut window, 0);
+    writer::text(b"strip\tshow\tcolour\n");
+    print(&window[..held]);
 }

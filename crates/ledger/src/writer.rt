@@ -1,29 +1,21 @@
-// Standard output.
-ghost use Rattle.std.specs.Prelude.{◌≡◌, false};
+// Standard output, written in large blocks: lines wait in a block until the next might not fit.
+ghost use Rattle.std.specs.Prelude.{◌≤◌, length};
 
-use crate::error;
 use libc::STDOUT_FILENO;
+use output::line::LONGEST;
 
-// Writes bytes, unless a write has failed before, and gives whether none has failed still: behind a
-// gap nothing is written.
-pub(crate) fn write(sound: bool, bytes: &[u8]) -> bool
-    ensures { sound ≡ false → result ≡ false }
+pub(crate) fn text(bytes: &[u8]) {
+    io::write_all(STDOUT_FILENO, bytes);
+}
+
+// Where the next line goes, behind those that wait. If it might not fit there, they are written first.
+pub(crate) fn place(out: &[u8], waiting: usize) -> usize
+    requires { waiting ≤ length out.now }
+    ensures { result ≤ length out.now }
 {
-    if !sound {
-        return false;
+    if LONGEST <= out.len() - waiting {
+        return waiting;
     }
-    let mut done = 0;
-    for _ in 0..error::MOST_TRIES {
-        if bytes.len() <= done {
-            return true;
-        }
-        let put = libc::write(STDOUT_FILENO, &bytes[done..]);
-        let more = io::count(put, &bytes[done..]);
-        if 0 < more {
-            done += more;
-        } else if !error::passes(b"ledger: standard output") {
-            return false;
-        }
-    }
-    false
+    text(&out[..waiting]);
+    0
 }

@@ -25,7 +25,7 @@ use Rattle.syntax.specs.Parser.{postfix_from, picks_from, primary_from, call_fro
 use Rattle.syntax.specs.Height.{height_of}
 use Rattle.syntax.specs.Names.{unknown_in, leftmost_of}
 use Rattle.syntax.specs.Judge.{by_names, by_height, by_grammar, by_tokens, by_size, judged_of, slots_after}
-use Rattle.syntax.specs.Inner.{Sound}
+use Rattle.syntax.specs.Inner.{Sound, branches_shape}
 use Rattle.syntax.specs.declared.symbol.Symbol.{Symbol}
 use Rattle.syntax.specs.declared.names.Leftmost.{Leftmost}
 use Rattle.syntax.specs.declared.names.Leftmost.TheVariants.{At, Nothing}
@@ -34,9 +34,6 @@ use Rattle.syntax.proofs.Law.Levels.{operator-number, prefix-operator}
 use Rattle.syntax.proofs.Law.Heights.{pruned-low}
 
 -- ---- what fits
-
-abbrev branches_shape : Branches → Shape
-branches_shape (branches q a b) = between q colon_tag (shape_of a) (shape_of b)
 
 abbrev KnownBranches : Branches → Type 0
 KnownBranches (branches q a b) = Known a × Known b
@@ -295,28 +292,6 @@ module _ (text : List ℕ) where
     arguments-fits (suc f) lo s i =
         fits-then (expression-fits f lo s i) (λ e x h.
         fits-ask _ (low-is comma (omega arith)) h.sound (λ t p. fits-then (arguments-fits f (x.at + 1) t p.on) (λ xs u k. fits-part (fit_next h k))) (fits-part (fit-last h)))
-
--- ---- where the tree of a level lies: from its first symbol up to the one behind it
-
-lies : {A : Type 0} (shape : A → Shape) (known : A → Type 0) (text : List ℕ) (m : Symbol → Result Symbol A) (x : Symbol) {a : A} {y : Symbol} →
-    Fits shape known text x.at m x → m x ≡ part a y → Within x.at y.at (shape a)
-lies shape known text m x {a} {y} h e = let d : Fit shape known text x.at a y = subst (FitsIn shape known text x.at) e h.gives in d.tidy
-
-module _ (text : List ℕ) (f : ℕ) (x : Symbol) (s : Sound text x) where
-  here : From text x.at x
-  here = record { sound = s; from = omega arith }
-
-  pub expression-lies : {e : Tree} {y : Symbol} → expression_from text (in_text text) f x ≡ part e y → Within x.at y.at (shape_of e)
-  expression-lies = lies shape_of Known text (expression_from text (in_text text) f) x (expression-fits text f x.at x here)
-
-  pub level-lies : (k : ℕ) {e : Tree} {y : Symbol} → level_from text (in_text text) f k x ≡ part e y → Within x.at y.at (shape_of e)
-  level-lies k = lies shape_of Known text (level_from text (in_text text) f k) x (level-fits text f k x.at x here)
-
-  pub unary-lies : {e : Tree} {y : Symbol} → unary_from text (in_text text) f x ≡ part e y → Within x.at y.at (shape_of e)
-  unary-lies = lies shape_of Known text (unary_from text (in_text text) f) x (unary-fits text f x.at x here)
-
-  pub arguments-lies : {xs : Arguments} {y : Symbol} → arguments_from text (in_text text) f x ≡ part xs y → Within x.at y.at (shapes_of xs)
-  arguments-lies = lies shapes_of KnownAll text (arguments_from text (in_text text) f) x (arguments-fits text f x.at x here)
 
 -- ---- the tree of a text
 

@@ -4,12 +4,7 @@ pub mod Steps
 pub mod Parts
 pub mod Picks
 pub mod Levels
-pub mod Loops
-pub mod Signs
-pub mod Arguments
 pub mod Nodes
 pub mod Heights
 pub mod Names
-pub mod Chains
-pub mod Turns
 pub mod Whole

@@ -1,18 +1,17 @@
 -- What the private functions promise. No public promise names anything of this file.
-use Rattle.std.specs.Prelude.{◌≡◌, true, false, cond, List, ℕ, ◌+◌, ◌*◌, ◌-◌, ◌<◌, ◌≤◌, leb, length}
+use Rattle.std.specs.Prelude.{◌≡◌, cond, List, ℕ, ◌+◌, ◌*◌, ◌-◌, ◌<◌, ◌≤◌, leb, length}
 use Rattle.lexer.specs.Refusal as judged
 use Rattle.lexer.specs.Refusal.{refusal_at, Judged}
-use Rattle.tree.specs.Tree.{Tree, Arguments}
-use Rattle.tree.specs.Tree as trees
-use Rattle.tree.specs.Slots.{links, Shape, root, lay, shape_of, shapes_of, store}
+use Rattle.tree.specs.Tree.{Tree}
+use Rattle.tree.specs.Slots.{Shape, root, lay, shape_of, shapes_of, between, colon_tag, store}
 use Rattle.tree.specs.Node.{argument_at}
 use Rattle.tree.specs.declared.node.Argument.{Argument}
 use Rattle.tree.specs.declared.node.Argument.TheVariants.{Last, Next}
 use Rattle.syntax.specs.Sizes.{most_height}
-use Rattle.syntax.specs.Symbol.{dot, open_square, close_square, close_round, comma, variable, end}
-use Rattle.syntax.specs.Symbol.{is, is_word, is_index, is_prefix, index_of, member_of, symbol_at}
-use Rattle.syntax.specs.Parser.{Result, part, refused, and_then, ask, in_text, parse_of}
-use Rattle.syntax.specs.Parser.{expression_from, level_from, tail_from, unary_from, postfix_from, picks_from, primary_from}
+use Rattle.syntax.specs.Symbol.{dot, open_square, close_square, close_round, variable, end}
+use Rattle.syntax.specs.Symbol.{is, is_word, is_index, index_of, member_of, symbol_at}
+use Rattle.syntax.specs.Parser.{Result, part, refused, Branches, branches, in_text, parse_of}
+use Rattle.syntax.specs.Parser.{expression_from, branches_from, level_from, tail_from, unary_from, postfix_from, picks_from, primary_from}
 use Rattle.syntax.specs.Parser.{call_from, arguments_from, steps_each}
 use Rattle.syntax.specs.Height.{height_of}
 use Rattle.syntax.specs.Names.{unknown_in, lesser, leftmost_of}
@@ -46,10 +45,6 @@ pub record Goes (text : List ℕ) (at : ℕ) (x : Symbol) : Type 0 where
   pub sound : Sound text x
   pub before : at < x.at
 
--- the text has a slot for each byte, and a link for each
-abbrev pub Room : List ℕ → List ℕ → Type 0
-Room text w = (length text ≤ length w) × (length text ≤ links)
-
 -- ---- what a level answers, by what the definition gives
 
 -- the answer is the definition's part: its root, the symbol behind it, and its nodes written
@@ -75,24 +70,29 @@ pub record ParsedBy
   pub says : (f : ℕ) → fuel ≤ f → Agrees shape w v r (spec f)
 
 -- the same for what goes on from a part that has been written
-pub record TailedBy
-    {A : Type 0} (shape : A → Shape) (spec : ℕ → Tree → Result Symbol A) (fuel : ℕ) (text w v : List ℕ) (at : ℕ) (r : Parsed) : Type 0 where
+pub record TailedBy (spec : ℕ → Tree → Result Symbol Tree) (fuel : ℕ) (text w v : List ℕ) (at : ℕ) (r : Parsed) : Type 0 where
   pub ahead : Ahead text at r
-  pub says : (f : ℕ) → fuel ≤ f → (u : List ℕ) (e : Tree) → w ≡ lay u (shape_of e) → at ≡ root (shape_of e) → Agrees shape u v r (spec f e)
+  pub says : (f : ℕ) → fuel ≤ f → (u : List ℕ) (e : Tree) → w ≡ lay u (shape_of e) → at ≡ root (shape_of e) → Agrees shape_of u v r (spec f e)
 
 -- ---- each level, and the steps that it takes
 
 abbrev pub steps : ℕ → List ℕ → Symbol → ℕ
 steps c text x = (length text - x.at) * steps_each + c
 
+abbrev pub branches_shape : Branches → Shape
+branches_shape (branches q a b) = between q colon_tag (shape_of a) (shape_of b)
+
 abbrev pub ExpressionBy : List ℕ → List ℕ → List ℕ → Symbol → Parsed → Type 0
 ExpressionBy text w v x r = ParsedBy shape_of (λ f. expression_from text (in_text text) f x) (steps 12 text x) text w v x.at r
+
+abbrev pub BranchesBy : List ℕ → List ℕ → List ℕ → Symbol → Parsed → Type 0
+BranchesBy text w v x r = ParsedBy branches_shape (λ f. branches_from text (in_text text) f x) (steps 13 text x) text w v x.at r
 
 abbrev pub LevelBy : ℕ → List ℕ → List ℕ → List ℕ → Symbol → Parsed → Type 0
 LevelBy k text w v x r = ParsedBy shape_of (λ f. level_from text (in_text text) f k x) (steps (5 + k) text x) text w v x.at r
 
 abbrev pub TailBy : ℕ → List ℕ → List ℕ → List ℕ → ℕ → Symbol → Parsed → Type 0
-TailBy k text w v at x r = TailedBy shape_of (λ f e. tail_from text (in_text text) f k e x) (steps 1 text x) text w v at r
+TailBy k text w v at x r = TailedBy (λ f e. tail_from text (in_text text) f k e x) (steps 1 text x) text w v at r
 
 abbrev pub UnaryBy : List ℕ → List ℕ → List ℕ → Symbol → Parsed → Type 0
 UnaryBy text w v x r = ParsedBy shape_of (λ f. unary_from text (in_text text) f x) (steps 4 text x) text w v x.at r
@@ -101,7 +101,7 @@ abbrev pub PostfixBy : List ℕ → List ℕ → List ℕ → Symbol → Parsed 
 PostfixBy text w v x r = ParsedBy shape_of (λ f. postfix_from text (in_text text) f x) (steps 3 text x) text w v x.at r
 
 abbrev pub PicksBy : List ℕ → List ℕ → List ℕ → ℕ → Symbol → Parsed → Type 0
-PicksBy text w v at x r = TailedBy shape_of (λ f e. picks_from text (in_text text) f e x) (steps 1 text x) text w v at r
+PicksBy text w v at x r = TailedBy (λ f e. picks_from text (in_text text) f e x) (steps 1 text x) text w v at r
 
 abbrev pub PrimaryBy : List ℕ → List ℕ → List ℕ → Symbol → Parsed → Type 0
 PrimaryBy text w v x r = ParsedBy shape_of (λ f. primary_from text (in_text text) f x) (steps 2 text x) text w v x.at r
@@ -111,32 +111,6 @@ CallBy text w v x r = ParsedBy shape_of (λ f. call_from text (in_text text) f x
 
 abbrev pub ArgumentsBy : List ℕ → List ℕ → List ℕ → Symbol → Parsed → Type 0
 ArgumentsBy text w v x r = ParsedBy shapes_of (λ f. arguments_from text (in_text text) f x) (steps 13 text x) text w v x.at r
-
--- the arguments behind the first
-abbrev pub others_from : List ℕ → ℕ → Tree → Symbol → Result Symbol Arguments
-others_from text f e =
-    ask (in_text text) (is comma) (λ x. and_then (arguments_from text (in_text text) f) (λ xs. part (trees.next e x.at xs)))
-    (part (trees.last e))
-
-abbrev pub OthersBy : List ℕ → List ℕ → List ℕ → ℕ → Symbol → Parsed → Type 0
-OthersBy text w v at x r = TailedBy shapes_of (λ f e. others_from text f e x) (steps 1 text x) text w v at r
-
--- the root of arguments: the comma behind the first, which has its root at a place, or the only argument's
-abbrev pub list_root : ℕ → Symbol → ℕ
-list_root at x = cond (is comma x) x.at at
-
--- The signs from x up to y, each but y written with the next one as its part: what is read from y on is the answer from x on.
-pub record SignsBy (text w v : List ℕ) (x y : Symbol) : Type 0 where
-  pub from : x.at ≤ y.at
-  pub sound : Sound text y
-  pub sign : is_prefix y ≡ true
-  pub tree : (u : List ℕ) (next : Symbol) → UnaryBy text v u y (parsed.Tree y.at next) → UnaryBy text w u x (parsed.Tree x.at next)
-  pub bad : (u : List ℕ) (z : Symbol) → UnaryBy text v u y (parsed.Bad z) → UnaryBy text w u x (parsed.Bad z)
-
--- and no sign follows y
-pub record LastSignBy (text w v : List ℕ) (x y : Symbol) : Type 0 where
-  pub signs : SignsBy text w v x y
-  pub last : is_prefix (symbol_at text y.end) ≡ false
 
 -- the whole text
 pub record WholeBy (text w v : List ℕ) (r : Parsed) : Type 0 where

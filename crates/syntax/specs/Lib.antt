@@ -8,4 +8,3 @@ pub mod Height
 pub mod Names
 pub mod Judge
 pub mod Inner
-pub mod Chain

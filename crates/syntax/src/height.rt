@@ -47,21 +47,13 @@ fn are_within(slots: &[u16], at: usize, allowance: usize, commas: usize) -> bool
     ensures { result ≡ leb
         (height_of_all (arguments_at (tree_at allowance slots.now) commas slots.now at)) allowance }
 {
-    let mut here = at;
-    let mut left = commas;
-    while 0 < left {
-        match argument_at(slots, here) {
-            Argument::Last => {
-                return is_within(slots, here, allowance);
-            }
-            Argument::Next { first, rest } => {
-                if !is_within(slots, first, allowance) {
-                    return false;
-                }
-                here = rest;
-            }
-        }
-        left -= 1;
+    if commas == 0 {
+        return is_within(slots, at, allowance);
     }
-    is_within(slots, here, allowance)
+    match argument_at(slots, at) {
+        Argument::Last => is_within(slots, at, allowance),
+        Argument::Next { first, rest } => {
+            is_within(slots, first, allowance) & are_within(slots, rest, allowance, commas - 1)
+        }
+    }
 }

@@ -1,5 +1,4 @@
 // The grammar of expressions: the tree of a text, or why it is refused.
-mod conditional;
 pub mod height;
 pub mod judge;
 pub mod names;

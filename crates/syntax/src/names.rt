@@ -195,20 +195,14 @@ fn unknown_among(text: &[u8], slots: &[u16], at: usize, allowance: usize, commas
     ensures { result ≡ leftmost_of (unknown_in_all text.now
         (arguments_at (tree_at allowance slots.now) commas slots.now at)) }
 {
-    let mut found = Leftmost::Nothing;
-    let mut here = at;
-    let mut left = commas;
-    while 0 < left {
-        match argument_at(slots, here) {
-            Argument::Last => {
-                return earlier(found, unknown(text, slots, here, allowance));
-            }
-            Argument::Next { first, rest } => {
-                found = earlier(found, unknown(text, slots, first, allowance));
-                here = rest;
-            }
-        }
-        left -= 1;
+    if commas == 0 {
+        return unknown(text, slots, at, allowance);
     }
-    earlier(found, unknown(text, slots, here, allowance))
+    match argument_at(slots, at) {
+        Argument::Last => unknown(text, slots, at, allowance),
+        Argument::Next { first, rest } => earlier(
+            unknown(text, slots, first, allowance),
+            unknown_among(text, slots, rest, allowance, commas - 1),
+        ),
+    }
 }

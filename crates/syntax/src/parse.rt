@@ -1,17 +1,18 @@
 // The levels of the grammar, which call each other in a cycle while the text left to read falls. Each writes the tree that it reads into
 // the slots.
-ghost use Rattle.std.specs.Prelude.{◌≡◌, ◌≤◌, ◌<◌, true};
-ghost use Rattle.syntax.specs.Symbol.{levels, word, is_prefix};
-ghost use Rattle.syntax.specs.Inner.{Sound, Goes, Room, closed_of, member_pick_of, index_pick_of, picking_of};
-ghost use Rattle.syntax.specs.Inner.{ExpressionBy, LevelBy, TailBy, UnaryBy, PostfixBy, PicksBy, PrimaryBy, CallBy};
-ghost use Rattle.syntax.specs.Inner.{LastSignBy, ArgumentsBy, OthersBy, list_root, WholeBy};
+ghost use Rattle.std.specs.Prelude.{◌≡◌, ◌≤◌, ◌<◌};
+ghost use Rattle.syntax.specs.Symbol.{levels, word};
+ghost use Rattle.syntax.specs.Inner.{Sound, Goes, closed_of, member_pick_of, index_pick_of, picking_of};
+ghost use Rattle.syntax.specs.Inner.{ExpressionBy, BranchesBy, LevelBy, TailBy, UnaryBy, PostfixBy, PicksBy, PrimaryBy, CallBy};
+ghost use Rattle.syntax.specs.Inner.{ArgumentsBy, WholeBy};
 
-use crate::conditional::{Step, turn};
 use crate::symbol::{
     END, Symbol, VARIABLE, WORD, after, form, function, index, is_index, is_literal, is_prefix,
     is_word, member, precedence, symbol_at,
 };
-use lexer::punctuator::{CLOSE_ROUND, CLOSE_SQUARE, COMMA, DOT, OPEN_ROUND, OPEN_SQUARE};
+use lexer::punctuator::{
+    CLOSE_ROUND, CLOSE_SQUARE, COLON, COMMA, DOT, OPEN_ROUND, OPEN_SQUARE, QUESTION,
+};
 use tree::write;
 
 // The place of a tree's root and the symbol behind it, or the symbol that can't stand where it does.
@@ -31,111 +32,118 @@ enum Picking {
 
 const LEVELS: usize = 6;
 
-// A whole expression: the parts between the `?` and `:` of its conditionals, one after the other.
-#[cycle(arguments_call_expression_level_others_postfix_primary_tail_unary)]
+// A whole expression: a conditional, or what stands before its `?`.
+#[cycle(arguments_branches_call_expression_level_postfix_primary_tail_unary)]
 fn expression(text: &[u8], slots: &mut [u16], x: Symbol) -> Parsed
-    requires { Sound text.now x × Room text.now slots.old }
+    requires { Sound text.now x }
     ensures { ExpressionBy text.now slots.old slots.new x result }
 {
-    let mut top = 0;
-    let mut y = x;
-    loop {
-        let read = level(text, slots, LEVELS, y);
-        match turn(text, slots, top, read) {
-            Step::Next { top: last, next } => {
-                top = last;
-                y = next;
+    match level(text, slots, LEVELS, x) {
+        Parsed::Tree { root, next } => {
+            if next.number != QUESTION {
+                return Parsed::Tree { root, next };
             }
-            Step::Done(parsed) => {
-                return parsed;
+            match branches(text, slots, after(text, next)) {
+                Parsed::Tree {
+                    root: colon,
+                    next: last,
+                } => {
+                    write::conditional(slots, next.at, root, colon);
+                    Parsed::Tree {
+                        root: next.at,
+                        next: last,
+                    }
+                }
+                Parsed::Bad(y) => Parsed::Bad(y),
             }
         }
+        Parsed::Bad(y) => Parsed::Bad(y),
+    }
+}
+
+// The branches of a conditional, with the `:` as their root.
+#[cycle(arguments_branches_call_expression_level_postfix_primary_tail_unary)]
+fn branches(text: &[u8], slots: &mut [u16], x: Symbol) -> Parsed
+    requires { Sound text.now x }
+    ensures { BranchesBy text.now slots.old slots.new x result }
+{
+    match expression(text, slots, x) {
+        Parsed::Tree { root, next } => {
+            if next.number != COLON {
+                return Parsed::Bad(next);
+            }
+            match expression(text, slots, after(text, next)) {
+                Parsed::Tree {
+                    root: second,
+                    next: last,
+                } => {
+                    write::branches(slots, next.at, root, second);
+                    Parsed::Tree {
+                        root: next.at,
+                        next: last,
+                    }
+                }
+                Parsed::Bad(y) => Parsed::Bad(y),
+            }
+        }
+        Parsed::Bad(y) => Parsed::Bad(y),
     }
 }
 
 // Binary operators of the first k levels; with none of them, a unary expression.
-#[cycle(arguments_call_expression_level_others_postfix_primary_tail_unary)]
+#[cycle(arguments_branches_call_expression_level_postfix_primary_tail_unary)]
 fn level(text: &[u8], slots: &mut [u16], k: usize, x: Symbol) -> Parsed
-    requires { Sound text.now x × (k ≤ levels) × Room text.now slots.old }
+    requires { Sound text.now x × (k ≤ levels) }
     ensures { LevelBy k text.now slots.old slots.new x result }
 {
-    let mut parsed = unary(text, slots, x);
-    let mut j = 0;
-    while j < k {
-        match parsed {
-            Parsed::Tree { root, next } => {
-                parsed = tail(text, slots, j, root, next);
-            }
-            Parsed::Bad(z) => {
-                return Parsed::Bad(z);
-            }
-        }
-        j += 1;
+    if k == 0 {
+        return unary(text, slots, x);
     }
-    parsed
+    match level(text, slots, k - 1, x) {
+        Parsed::Tree { root, next } => tail(text, slots, k - 1, root, next),
+        Parsed::Bad(y) => Parsed::Bad(y),
+    }
 }
 
 // What follows an operand of the level k + 1, whose tree has its root at a place.
-#[cycle(arguments_call_expression_level_others_postfix_primary_tail_unary)]
-fn tail(text: &[u8], slots: &mut [u16], k: usize, first: usize, y: Symbol) -> Parsed
-    requires { Goes text.now first y × (k < levels) × Room text.now slots.old }
-    ensures { TailBy k text.now slots.old slots.new first y result }
+#[cycle(arguments_branches_call_expression_level_postfix_primary_tail_unary)]
+fn tail(text: &[u8], slots: &mut [u16], k: usize, root: usize, x: Symbol) -> Parsed
+    requires { Goes text.now root x × (k < levels) }
+    ensures { TailBy k text.now slots.old slots.new root x result }
 {
-    let mut root = first;
-    let mut x = y;
-    while precedence(x.number) as usize == k + 1 {
-        match level(text, slots, k, after(text, x)) {
-            Parsed::Tree { root: right, next } => {
-                write::binary(slots, x.at, x.number, root, right);
-                root = x.at;
-                x = next;
-            }
-            Parsed::Bad(z) => {
-                return Parsed::Bad(z);
-            }
+    if precedence(x.number) as usize != k + 1 {
+        return Parsed::Tree { root, next: x };
+    }
+    match level(text, slots, k, after(text, x)) {
+        Parsed::Tree { root: right, next } => {
+            write::binary(slots, x.at, x.number, root, right);
+            tail(text, slots, k, x.at, next)
         }
+        Parsed::Bad(y) => Parsed::Bad(y),
     }
-    Parsed::Tree { root, next: x }
 }
 
-// Writes the signs from one on, each but the last, whose part is not read yet; of the others it is the next sign. The answer is the last.
-fn last_sign(text: &[u8], slots: &mut [u16], first: Symbol) -> Symbol
-    requires { Sound text.now first × (is_prefix first ≡ true) }
-    ensures { LastSignBy text.now slots.old slots.new first result }
-{
-    let mut x = first;
-    let mut y = after(text, x);
-    while is_prefix(y) {
-        write::unary(slots, x.at, x.number, y.at);
-        x = y;
-        y = after(text, x);
-    }
-    x
-}
-
-// Signs and what they stand before.
-#[cycle(arguments_call_expression_level_others_postfix_primary_tail_unary)]
+#[cycle(arguments_branches_call_expression_level_postfix_primary_tail_unary)]
 fn unary(text: &[u8], slots: &mut [u16], x: Symbol) -> Parsed
-    requires { Sound text.now x × Room text.now slots.old }
+    requires { Sound text.now x }
     ensures { UnaryBy text.now slots.old slots.new x result }
 {
     if !is_prefix(x) {
         return postfix(text, slots, x);
     }
-    let y = last_sign(text, slots, x);
-    match postfix(text, slots, after(text, y)) {
+    match unary(text, slots, after(text, x)) {
         Parsed::Tree { root, next } => {
-            write::unary(slots, y.at, y.number, root);
+            write::unary(slots, x.at, x.number, root);
             Parsed::Tree { root: x.at, next }
         }
-        Parsed::Bad(z) => Parsed::Bad(z),
+        Parsed::Bad(y) => Parsed::Bad(y),
     }
 }
 
 // A primary and its picks.
-#[cycle(arguments_call_expression_level_others_postfix_primary_tail_unary)]
+#[cycle(arguments_branches_call_expression_level_postfix_primary_tail_unary)]
 fn postfix(text: &[u8], slots: &mut [u16], x: Symbol) -> Parsed
-    requires { Sound text.now x × Room text.now slots.old }
+    requires { Sound text.now x }
     ensures { PostfixBy text.now slots.old slots.new x result }
 {
     match primary(text, slots, x) {
@@ -193,26 +201,17 @@ fn pick_at(text: &[u8], x: Symbol) -> Picking
 }
 
 // The picks of a part that has its root at a place.
-fn picks(text: &[u8], slots: &mut [u16], first: usize, y: Symbol) -> Parsed
-    requires { Goes text.now first y }
-    ensures { PicksBy text.now slots.old slots.new first y result }
+fn picks(text: &[u8], slots: &mut [u16], root: usize, x: Symbol) -> Parsed
+    requires { Goes text.now root x }
+    ensures { PicksBy text.now slots.old slots.new root x result }
 {
-    let mut root = first;
-    let mut x = y;
-    loop {
-        match pick_at(text, x) {
-            Picking::Pick { index, next } => {
-                write::pick(slots, x.at, index, root);
-                root = x.at;
-                x = next;
-            }
-            Picking::Bad(z) => {
-                return Parsed::Bad(z);
-            }
-            Picking::Nothing => {
-                return Parsed::Tree { root, next: x };
-            }
+    match pick_at(text, x) {
+        Picking::Pick { index, next } => {
+            write::pick(slots, x.at, index, root);
+            picks(text, slots, x.at, next)
         }
+        Picking::Bad(y) => Parsed::Bad(y),
+        Picking::Nothing => Parsed::Tree { root, next: x },
     }
 }
 
@@ -235,9 +234,9 @@ fn closed(text: &[u8], inside: Parsed) -> Parsed
 }
 
 // A literal, a variable, brackets with a whole expression in them, or a call.
-#[cycle(arguments_call_expression_level_others_postfix_primary_tail_unary)]
+#[cycle(arguments_branches_call_expression_level_postfix_primary_tail_unary)]
 fn primary(text: &[u8], slots: &mut [u16], x: Symbol) -> Parsed
-    requires { Sound text.now x × Room text.now slots.old }
+    requires { Sound text.now x }
     ensures { PrimaryBy text.now slots.old slots.new x result }
 {
     if is_literal(x) {
@@ -264,9 +263,9 @@ fn primary(text: &[u8], slots: &mut [u16], x: Symbol) -> Parsed
 }
 
 // The call of a word.
-#[cycle(arguments_call_expression_level_others_postfix_primary_tail_unary)]
+#[cycle(arguments_branches_call_expression_level_postfix_primary_tail_unary)]
 fn call(text: &[u8], slots: &mut [u16], x: Symbol) -> Parsed
-    requires { Sound text.now x × (x.number ≡ word) × Room text.now slots.old }
+    requires { Sound text.now x × (x.number ≡ word) }
     ensures { CallBy text.now slots.old slots.new x result }
 {
     let y = after(text, x);
@@ -292,53 +291,36 @@ fn call(text: &[u8], slots: &mut [u16], x: Symbol) -> Parsed
 }
 
 // The arguments of a call, with the first comma as their root, if there is one.
-#[cycle(arguments_call_expression_level_others_postfix_primary_tail_unary)]
+#[cycle(arguments_branches_call_expression_level_postfix_primary_tail_unary)]
 fn arguments(text: &[u8], slots: &mut [u16], x: Symbol) -> Parsed
-    requires { Sound text.now x × Room text.now slots.old }
+    requires { Sound text.now x }
     ensures { ArgumentsBy text.now slots.old slots.new x result }
 {
     match expression(text, slots, x) {
-        Parsed::Tree { root, next } => others(text, slots, root, next),
-        Parsed::Bad(y) => Parsed::Bad(y),
-    }
-}
-
-// The root of the arguments from one on: the comma behind it, or its own.
-fn list_root(root: usize, next: Symbol) -> usize
-    ensures { result ≡ list_root root next }
-{
-    if next.number == COMMA { next.at } else { root }
-}
-
-// The arguments behind the first, whose tree has its root at a place. A comma is written when the argument behind it has been read.
-#[cycle(arguments_call_expression_level_others_postfix_primary_tail_unary)]
-fn others(text: &[u8], slots: &mut [u16], first: usize, y: Symbol) -> Parsed
-    requires { Goes text.now first y × Room text.now slots.old }
-    ensures { OthersBy text.now slots.old slots.new first y result }
-{
-    let mut left = first;
-    let mut x = y;
-    while x.number == COMMA {
-        match expression(text, slots, after(text, x)) {
-            Parsed::Tree { root, next } => {
-                write::comma(slots, x.at, left, list_root(root, next));
-                left = root;
-                x = next;
+        Parsed::Tree { root, next } => {
+            if next.number != COMMA {
+                return Parsed::Tree { root, next };
             }
-            Parsed::Bad(z) => {
-                return Parsed::Bad(z);
+            match arguments(text, slots, after(text, next)) {
+                Parsed::Tree {
+                    root: rest,
+                    next: last,
+                } => {
+                    write::comma(slots, next.at, root, rest);
+                    Parsed::Tree {
+                        root: next.at,
+                        next: last,
+                    }
+                }
+                Parsed::Bad(y) => Parsed::Bad(y),
             }
         }
-    }
-    Parsed::Tree {
-        root: list_root(first, y),
-        next: x,
+        Parsed::Bad(y) => Parsed::Bad(y),
     }
 }
 
 // The tree of a whole text.
 pub(crate) fn parse(text: &[u8], slots: &mut [u16]) -> Parsed
-    requires { Room text.now slots.old }
     ensures { WholeBy text.now slots.old slots.new result }
 {
     match expression(text, slots, symbol_at(text, 0)) {

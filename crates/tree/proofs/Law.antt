@@ -1,4 +1,3 @@
 pub mod Places
 pub mod Words
 pub mod Nodes
-pub mod Apart

@@ -1,8 +1,7 @@
 -- Reading a tree back from slots: a node by its slot, and from nodes the tree, as deep as an allowance goes.
-use Rattle.std.specs.Prelude.{Bool, cond, ◌&&◌, List, ℕ, zero, suc, ◌-◌, eqb, ltb}
+use Rattle.std.specs.Prelude.{cond, List, ℕ, zero, suc, ◌-◌, eqb, ltb}
 use Rattle.tree.specs.Tree.{number_form, Tree, literal, variable, unary, binary, conditional, bare, call, pick, Arguments, last, next}
-use Rattle.tree.specs.Slots.{links, tag_at, link_at, left_at, variable_tag, first_function_tag, question_tag, colon_tag}
-use Rattle.tree.specs.Slots.{comma_tag, first_pick_tag}
+use Rattle.tree.specs.Slots.{links, tag_at, link_at, left_at, variable_tag, first_function_tag, question_tag, comma_tag, first_pick_tag}
 use Rattle.tree.specs.declared.node.Node.{Node}
 use Rattle.tree.specs.declared.node.Node.TheVariants.{Literal, Variable, Unary, Binary, Conditional, Bare, Call, Pick}
 use Rattle.tree.specs.declared.node.Argument.{Argument}
@@ -64,7 +63,3 @@ unfoldable pub tree_at : ℕ → List ℕ → ℕ → Tree
 unfolding node_at arguments_at
 tree_at zero w p = literal p number_form
 tree_at (suc h) w p = grown (node_at w p) p (tree_at h w) (arguments_at (tree_at h w) most_commas w)
-
--- a `:` has been written at a place, which is not the first
-abbrev pub is_colon : List ℕ → ℕ → Bool
-is_colon w p = ltb 0 p && eqb (tag_at w p) colon_tag

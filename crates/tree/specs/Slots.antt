@@ -71,10 +71,6 @@ first_pick_tag = 56
 abbrev pub pick_tag : ℕ → ℕ
 pick_tag i = first_pick_tag + i
 
--- a conditional whose second branch is known last: its `:` has that one's place then, and its `?` the place of the `:`
-abbrev pub completed_at : List ℕ → ℕ → ℕ → ℕ → List ℕ
-completed_at w question colon second = put (put w colon colon_tag second) question question_tag colon
-
 -- ---- what lies in the slots
 
 -- Where the parts of a node stand: nowhere, after it, before it, or on both sides. Each has its place and its tag. Of a leaf the link is

@@ -1,10 +1,10 @@
 // Reading a node from the slots, by its place.
 ghost use Rattle.std.specs.Prelude.{◌≡◌, ◌-◌};
-ghost use Rattle.tree.specs.Slots.{link_at, question_tag};
-ghost use Rattle.tree.specs.Node.{prefix_node, infix_node, node_at, argument_at, is_colon};
+ghost use Rattle.tree.specs.Slots.{question_tag};
+ghost use Rattle.tree.specs.Node.{prefix_node, infix_node, node_at, argument_at};
 
 use crate::slots::{
-    COLON, COMMA, FIRST_FUNCTION, FIRST_PICK, QUESTION, VARIABLE, left_at, link_at, tag_at,
+    COMMA, FIRST_FUNCTION, FIRST_PICK, QUESTION, VARIABLE, left_at, link_at, tag_at,
 };
 
 // A node, with the places of its parts. Operators have their punctuators' numbers.
@@ -137,18 +137,4 @@ pub fn argument_at(slots: &[u16], at: usize) -> Argument
     } else {
         Argument::Last
     }
-}
-
-// Whether a `:` has been written at a place. No conditional has it at the first.
-pub fn is_colon(slots: &[u16], at: usize) -> bool
-    ensures { result ≡ is_colon slots.now at }
-{
-    (0 < at) & (tag_at(slots, at) == COLON)
-}
-
-// The link of the slot at a place, whatever it stands for.
-pub fn link(slots: &[u16], at: usize) -> usize
-    ensures { result ≡ link_at slots.now at }
-{
-    link_at(slots, at)
 }

@@ -1,7 +1,6 @@
 // Writing a node into the slots, at its place, and clearing them.
 ghost use Rattle.std.specs.Prelude.{◌≡◌, length, replicate};
-ghost use Rattle.tree.specs.Slots.{put, join, completed_at, variable_tag, function_tag, question_tag, colon_tag};
-ghost use Rattle.tree.specs.Slots.{operator_tag, comma_tag, pick_tag};
+ghost use Rattle.tree.specs.Slots.{put, join, variable_tag, function_tag, question_tag, colon_tag, operator_tag, comma_tag, pick_tag};
 
 use crate::slots::{
     COLON, COMMA, FIRST_FUNCTION, FIRST_PICK, QUESTION, VARIABLE, set_joint, set_slot,
@@ -45,14 +44,6 @@ pub fn conditional(slots: &mut [u16], at: usize, test: usize, colon: usize)
     ensures { slots.new ≡ join slots.old at question_tag test colon }
 {
     set_joint(slots, at, QUESTION, test, colon);
-}
-
-// A conditional whose second branch is known last: the right parts of its `:` and its `?`.
-pub fn complete(slots: &mut [u16], question: usize, colon: usize, second: usize)
-    ensures { slots.new ≡ completed_at slots.old question colon second }
-{
-    set_slot(slots, colon, COLON, second);
-    set_slot(slots, question, QUESTION, colon);
 }
 
 // A call without arguments.

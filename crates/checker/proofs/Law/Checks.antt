@@ -11,15 +11,14 @@ use Rattle.value.specs.Name.{function_at, pick_at}
 use Rattle.value.specs.declared.name.Found.{Found}
 use Rattle.value.specs.declared.name.Found.TheVariants.{Known, Unknown}
 use Rattle.tree.specs.Tree.{Tree, Arguments}
-use Rattle.tree.specs.Node.{node_at, argument_at, arguments_at, grown, most_commas, tree_at}
+use Rattle.tree.specs.Node.{node_at, arguments_at, grown, most_commas, tree_at}
 use Rattle.tree.specs.declared.node.Node.{Node}
 use Rattle.tree.specs.declared.node.Node.TheVariants.{Literal, Variable, Unary, Binary, Conditional, Bare, Call, Pick}
-use Rattle.tree.specs.declared.node.Argument.TheVariants.{Last, Next}
-use Rattle.syntax.proofs.Law.Nodes.{tree-step, arguments-end, arguments-step}
+use Rattle.syntax.proofs.Law.Nodes.{tree-step}
 use Rattle.kind.specs.Set.{single_of}
 use Rattle.checker.specs.Operator.{prefix_at, infix_at}
 use Rattle.checker.specs.Kinds.{after, gathered, placed, operated, node_of, literal_kind, conditional_of, kinds_of, kinds_of_all}
-use Rattle.checker.specs.Inner.{no_checks, with_one, with_all, node_by}
+use Rattle.checker.specs.Inner.{no_checks, with_all, node_by}
 use Rattle.checker.specs.declared.check.Verdict.{Verdict}
 use Rattle.checker.specs.declared.check.Verdict.TheVariants.{Refused, Accepted}
 use Rattle.checker.specs.declared.check.Checks.{Checks}
@@ -87,23 +86,3 @@ pub kinds-step : (look : ℕ → ℕ → Kinds) (w : List ℕ) (p h : ℕ) (n : 
     kinds_by look n p (λ q. kinds_of look (tree_at (h - 1) w q)) (λ q. kinds_of_all look (arguments_at (tree_at (h - 1) w) most_commas w q))
 kinds-step look w p h n some e =
     rw (tree-step w p h n some e) (kinds-grown look n p (tree_at (h - 1) w) (arguments_at (tree_at (h - 1) w) most_commas w))
-
--- ---- arguments, one after the other
-
--- what is known of some parts, and then of the arguments at a place with n commas at most
-abbrev pub known_from : (ℕ → ℕ → Kinds) → ℕ → List ℕ → Checks → ℕ → ℕ → Checks
-known_from look h w c n p = with_all c (kinds_of_all look (arguments_at (tree_at h w) n w p))
-
-module _ (look : ℕ → ℕ → Kinds) (h : ℕ) (w : List ℕ) (c : Checks) (n p : ℕ) where
-  pub known-none : n ≡ 0 → known_from look h w c n p ≡ with_one c (kinds_of look (tree_at h w p))
-  unfolding kinds_of
-  known-none e = rw (arguments-end _ _ _ _ e)
-
-  pub known-last : (n ≡ 0 → ⊥) → Last ≡ argument_at w p → known_from look h w c n p ≡ with_one c (kinds_of look (tree_at h w p))
-  unfolding kinds_of
-  known-last some e = rw (arguments-step _ _ _ _ _ some e)
-
-  pub known_next : (first rest : ℕ) → (n ≡ 0 → ⊥) → Next first rest ≡ argument_at w p →
-      known_from look h w c n p ≡ known_from look h w (with_one c (kinds_of look (tree_at h w first))) (n - 1) rest
-  unfolding kinds_of
-  known_next first rest some e = rw (arguments-step _ _ _ _ _ some e)

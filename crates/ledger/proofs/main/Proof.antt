@@ -1,21 +1,19 @@
 use borrow.Author.Rules.{rules}
 use Rattle.ledger.proofs.main.Statement.{statement}
 use Rattle.ledger.proofs.main.Tie as tie
-use Rattle.ledger.proofs.main.Reads as reads
-use Rattle.ledger.proofs.main.Lts as lts
-use Rattle.ledger.proofs.open.Reads as open-reads
-use Rattle.ledger.proofs.print.Reads as print-reads
-use Rattle.ledger.proofs.print_heading.Reads as print-heading-reads
 use Rattle.io.proofs.Counting.{length-take_of_le}
 
-print-heading-requires : tie.Need-print-heading-requires
-print-heading-requires c κs = search rules
+slice-aggregate-fill : tie.Need-slice-aggregate-fill
+slice-aggregate-fill c = search rules
 
-slice-aggregate-open : tie.Need-slice-aggregate-open
-slice-aggregate-open c = search rules
+fill-requires : tie.Need-fill-requires
+fill-requires c κs = search rules
 
-open-requires : tie.Need-open-requires
-open-requires c κs = search rules
+slice-aggregate-text : tie.Need-slice-aggregate-text
+slice-aggregate-text c = search rules
+
+text-requires : tie.Need-text-requires
+text-requires c κs = search rules
 
 array-share-prefix-window : tie.Need-array-share-prefix-window
 array-share-prefix-window c = search rules
@@ -30,22 +28,15 @@ print-requires c κs = search rules
 returns : tie.Need-returns
 returns c = search rules
 
-returns-2 : tie.Need-returns-2
-returns-2 c = search rules
-
-returns-3 : tie.Need-returns-3
-returns-3 c = search rules
-
 pub main_spec : {M : Type 1} → statement M
 main_spec =
     tie.close
     (tie.spec
-    print-heading-requires
-    slice-aggregate-open
-    open-requires
+    slice-aggregate-fill
+    fill-requires
+    slice-aggregate-text
+    text-requires
     array-share-prefix-window
     slice-aggregate-print
     print-requires
-    returns
-    returns-2
-    returns-3)
+    returns)

@@ -1,12 +1,6 @@
 use borrow.Author.Rules.{rules}
 use Rattle.ledger.proofs.print.Statement.{statement}
 use Rattle.ledger.proofs.print.Tie as tie
-use Rattle.ledger.proofs.print.Reads as reads
-use Rattle.ledger.proofs.print.Lts as lts
-use Rattle.ledger.proofs.features.print.Reads as print-reads
-use Rattle.ledger.proofs.print_refusal.Reads as print-refusal-reads
-use Rattle.style.proofs.head.compile.Reads as compile-reads
-use Rattle.text.proofs.head.head_end.Reads as head-end-reads
 use Rattle.io.proofs.Counting.{length-take_of_le}
 
 head-end-requires : tie.Need-head-end-requires
@@ -31,24 +25,24 @@ print-refusal-requires c κs = search rules
 enum_told : tie.Need-enum-told
 enum_told c = search rules
 
-slice-aggregate-print : tie.Need-slice-aggregate-print
-slice-aggregate-print c =
+slice-aggregate-print-features : tie.Need-slice-aggregate-print-features
+slice-aggregate-print-features c =
     length-take_of_le _ _ c.before.before.before.before.before.before.before.before.head-end.ensures.1
 
-slice-aggregate-print-2 : tie.Need-slice-aggregate-print-2
-slice-aggregate-print-2 c = search rules
+slice-aggregate-print-features-2 : tie.Need-slice-aggregate-print-features-2
+slice-aggregate-print-features-2 c = search rules
 
-sub-print : tie.Need-overflow-sub-print
-sub-print c = search rules
+sub-print-features : tie.Need-overflow-sub-print-features
+sub-print-features c = search rules
 
-part-print-start : tie.Need-slice-bounds-print-start
-part-print-start c = search rules
+part-print-features-start : tie.Need-slice-bounds-print-features-start
+part-print-features-start c = search rules
 
-part-print-end : tie.Need-slice-bounds-print-end
-part-print-end c = search rules
+part-print-features-end : tie.Need-slice-bounds-print-features-end
+part-print-features-end c = search rules
 
-print-requires : tie.Need-print-requires
-print-requires c κs = search rules
+print-features-requires : tie.Need-print-features-requires
+print-features-requires c κs = search rules
 
 returns : tie.Need-returns
 returns c = search rules
@@ -67,11 +61,11 @@ print-spec =
     enum-known-r
     print-refusal-requires
     enum_told
-    slice-aggregate-print
-    slice-aggregate-print-2
-    sub-print
-    part-print-start
-    part-print-end
-    print-requires
+    slice-aggregate-print-features
+    slice-aggregate-print-features-2
+    sub-print-features
+    part-print-features-start
+    part-print-features-end
+    print-features-requires
     returns
     returns-2)

@@ -9,17 +9,16 @@ use native.Mathlib.Omega.{arith}
 use lib.Dec.{leb, leb-zero, leb-suc-suc}
 use borrow.Author.Tests.{leb-true, leb-false, le-leb, lt-leb}
 use Rattle.tree.specs.Tree.{Tree, literal, variable, unary, binary, conditional, bare, call, pick, Arguments, last, next}
-use Rattle.tree.specs.Node.{node_at, argument_at, arguments_at, grown, most_commas, tree_at}
+use Rattle.tree.specs.Node.{node_at, arguments_at, grown, most_commas, tree_at}
 use Rattle.tree.specs.declared.node.Node.{Node}
 use Rattle.tree.specs.declared.node.Node.TheVariants.{Literal, Variable, Unary, Binary, Conditional, Bare, Call, Pick}
-use Rattle.tree.specs.declared.node.Argument.TheVariants.{Last, Next}
 use Rattle.tree.specs.Fits.{allowed, pruned, pruned_all}
 use Rattle.syntax.specs.Height.{height_of, height_of_all}
-use Rattle.syntax.proofs.Law.Nodes.{tree-step, arguments-end, arguments-step}
+use Rattle.syntax.proofs.Law.Nodes.{tree-step}
 
 -- ---- the greater of two
 
-leb-max : (a b h : ℕ) → leb (max a b) h ≡ leb a h && leb b h
+pub leb-max : (a b h : ℕ) → leb (max a b) h ≡ leb a h && leb b h
 leb-max a b h = go (leb a h) (leb b h) refl refl
   where
     go : (u v : Bool) → leb a h ≡ u → leb b h ≡ v → leb (max a b) h ≡ u && v
@@ -66,31 +65,6 @@ pub within_step : (w : List ℕ) (p h : ℕ) (n : Node) → (h ≡ 0 → ⊥) �
     within_by n (λ q. leb (height_of (tree_at (h - 1) w q)) (h - 1)) (λ q. leb (height_of_all (arguments_at (tree_at (h - 1) w) most_commas w q)) (h - 1))
 within_step w p zero n some e = absurd (some refl)
 within_step w p (suc h) n some e = rw (tree-step w p (suc h) n some e, sub-one (suc h)) (within_grown n p h (tree_at h w) (arguments_at (tree_at h w) most_commas w))
-
--- ---- arguments, one after the other
-
--- whether the arguments at a place, with n commas at most, are within an allowance
-abbrev pub within_from : ℕ → List ℕ → ℕ → ℕ → Bool
-within_from h w n p = leb (height_of_all (arguments_at (tree_at h w) n w p)) h
-
-module _ (h : ℕ) (w : List ℕ) (n p : ℕ) where
-  pub within_none : n ≡ 0 → within_from h w n p ≡ leb (height_of (tree_at h w p)) h
-  unfolding height_of
-  within_none e = rw (arguments-end _ _ _ _ e)
-
-  pub within-last : (n ≡ 0 → ⊥) → Last ≡ argument_at w p → within_from h w n p ≡ leb (height_of (tree_at h w p)) h
-  unfolding height_of
-  within-last some e = rw (arguments-step _ _ _ _ _ some e)
-
-  -- one with a comma after it, by whether it is within the allowance itself
-  module _ (first rest : ℕ) (some : n ≡ 0 → ⊥) (e : Next first rest ≡ argument_at w p) (b : Bool) (told : b ≡ leb (height_of (tree_at h w first)) h) where
-    pub within-not : b ≡ false → within_from h w n p ≡ false
-    unfolding height_of
-    within-not is = rw (arguments-step _ _ _ _ _ some e, leb-max, ← told, is)
-
-    pub within-next : b ≡ true → within_from h w n p ≡ within_from h w (n - 1) rest
-    unfolding height_of
-    within-next is = rw (arguments-step _ _ _ _ _ some e, leb-max, ← told, is)
 
 -- ---- a tree that was pruned
 

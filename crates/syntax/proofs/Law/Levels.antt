@@ -7,14 +7,14 @@ use native.Mathlib.Omega.{arith}
 use lib.Dec.{eqb, ltb, leb}
 use lib.ListN.{length}
 use borrow.Author.Tests.{eq-eqb, ne_eqb, eqb-true, ltb-true, ltb-false}
-use Rattle.tree.specs.Tree.{Tree, literal, variable, unary, binary, bare, call}
-use Rattle.tree.specs.Slots.{Shape, root, lay, put, join, shape_of, shapes_of, operator_tag, function_tag, variable_tag}
-use Rattle.syntax.specs.Symbol.{symbol_at, is, close_round, end, is_literal, form_of, is_prefix, precedence_of, function_of}
-use Rattle.syntax.specs.Parser.{Result, part, refused, and_then, closed, in_text, expression_from}
-use Rattle.syntax.specs.Parser.{level_from, tail_from, unary_from, postfix_from, picks_from, primary_from, call_from}
+use Rattle.tree.specs.Tree.{Tree, literal, variable, unary, binary, bare, call, last, next}
+use Rattle.tree.specs.Slots.{Shape, between, root, lay, put, join, shape_of, shapes_of, question_tag, colon_tag, operator_tag, function_tag, variable_tag, comma_tag}
+use Rattle.syntax.specs.Symbol.{symbol_at, is, question, colon, comma, close_round, end, is_literal, form_of, is_prefix, precedence_of, function_of}
+use Rattle.syntax.specs.Parser.{Result, part, refused, and_then, ask, closed, Branches, branches, chosen, in_text, expression_from}
+use Rattle.syntax.specs.Parser.{branches_from, level_from, tail_from, unary_from, postfix_from, picks_from, primary_from, call_from}
 use Rattle.syntax.specs.Parser.{arguments_from}
-use Rattle.syntax.specs.Inner.{Sound, Follows, Goes, Good, Agrees, Ahead, ParsedBy, TailedBy, steps, ExpressionBy}
-use Rattle.syntax.specs.Inner.{LevelBy, TailBy, UnaryBy, PostfixBy, PicksBy, PrimaryBy, CallBy, ArgumentsBy, OthersBy, others_from, closed_of}
+use Rattle.syntax.specs.Inner.{Sound, Follows, Goes, Good, Agrees, Ahead, ParsedBy, steps, branches_shape, ExpressionBy}
+use Rattle.syntax.specs.Inner.{BranchesBy, LevelBy, TailBy, UnaryBy, PostfixBy, PicksBy, PrimaryBy, CallBy, ArgumentsBy, closed_of}
 use Rattle.syntax.specs.declared.symbol.Symbol.{Symbol}
 use Rattle.syntax.specs.declared.parse.Parsed.{Parsed}
 use Rattle.syntax.specs.declared.parse.Parsed.TheVariants as parsed
@@ -29,37 +29,164 @@ module _ {A : Type 0} {shape : A → Shape} {text w v : List ℕ} {lo : ℕ} (m 
   refuses : {y : Symbol} → 0 < fuel → ((g : ℕ) → fuel ≤ suc g → Gives (m (suc g)) x (refused y)) → ParsedBy shape (λ f. m f x) fuel text w v lo (parsed.Bad y)
   refuses {y} some h = record { ahead = tt; says = stepped (λ f. m f x ≡ refused y) some (λ g l. (h g l).gives) }
 
-  pub builds : {at : ℕ} {next : Symbol} → 0 < fuel → Ahead text lo (parsed.Tree at next) → ((g : ℕ) → fuel ≤ suc g → Good shape w v at next (m (suc g) x)) →
+  builds : {at : ℕ} {next : Symbol} → 0 < fuel → Ahead text lo (parsed.Tree at next) → ((g : ℕ) → fuel ≤ suc g → Good shape w v at next (m (suc g) x)) →
       ParsedBy shape (λ f. m f x) fuel text w v lo (parsed.Tree at next)
   builds {at} {next} some a h = record { ahead = a; says = stepped (λ f. Good shape w v at next (m f x)) some h }
 
--- ---- a part and what goes on from it: operators, picks, arguments
+-- ---- two parts with a symbol between them: conditionals, branches, arguments
 
-module _ {A : Type 0} {shape : A → Shape} (first : ℕ → Symbol → Result Symbol Tree) (rest : ℕ → Tree → Symbol → Result Symbol A) (whole : ℕ → Symbol → Result Symbol A)
-    (step : (g : ℕ) → whole (suc g) ≡ and_then (first g) (rest g)) {text w v : List ℕ} (x : Symbol) (c₁ c : ℕ) (less : c₁ < c) {r : Parsed}
-    (h : ParsedBy shape_of (λ f. first f x) (steps c₁ text x) text w v x.at r) where
-  part-bad : {y : Symbol} → r ≡ parsed.Bad y → ParsedBy shape (λ f. whole f x) (steps c text x) text w v x.at (parsed.Bad y)
-  part-bad {y} e = refuses whole x _ (omega arith) (λ g l. subst (λ m. Gives m x (refused y)) (sym (step g)) (then-bad _ (given (says-bad h e g (omega arith)))))
+-- A level that reads a first part, and if the symbol after it is the right one, a second part and a node between the two. It takes c steps, and its parts c₁ and c₂.
+pub record Pair {A B C : Type 0} (shape_a : A → Shape) (shape_b : B → Shape) (shape_c : C → Shape) (text : List ℕ) : Type 0 where
+  pub first : ℕ → Symbol → Result Symbol A
+  pub second : ℕ → Symbol → Result Symbol B
+  pub whole : ℕ → Symbol → Result Symbol C
+  pub none : A → Symbol → Result Symbol C
+  pub node : ℕ → A → B → C
+  pub mark : ℕ
+  pub tag : ℕ
+  pub c₁ : ℕ
+  pub c₂ : ℕ
+  pub c : ℕ
+  step : (g : ℕ) → whole (suc g) ≡ and_then (first g) (λ a. ask (in_text text) (is mark) (λ y. and_then (second g) (λ b. part (node y.at a b))) (none a))
+  shaped : (p : ℕ) (a : A) (b : B) → shape_c (node p a b) ≡ between p tag (shape_a a) (shape_b b)
+  marked : mark < 36
+  later₁ : c₁ < c
+  later₂ : c₂ < c + 32
 
-  part-goes : {at : ℕ} {y : Symbol} {u : List ℕ} {r' : Parsed} → r ≡ parsed.Tree at y → TailedBy shape (λ f e. rest f e y) (steps 1 text y) text v u at r' →
-      ParsedBy shape (λ f. whole f x) (steps c text x) text w u x.at r'
-  unfolding and_then
-  part-goes {u = u} {r' = r'} e t =
-      let a = ahead-tree h e in
-      record {
-        ahead = ahead-wider text x.at r' a.0 t.ahead;
-        says = stepped (λ f. Agrees shape w u r' (whole f x)) (omega arith) (λ g l.
-            subst (λ m. Agrees shape w u r' (m x)) (sym (step g)) (goes_on rest _ t g (omega (arith, a.2.order, a.2.inside)) (says-tree h e g (omega arith))));
-      }
+module _ {A B C : Type 0} {shape_a : A → Shape} {shape_b : B → Shape} {shape_c : C → Shape} {text : List ℕ}
+    (p : Pair shape_a shape_b shape_c text) {w v : List ℕ} (x : Symbol) {r : Parsed}
+    (h : ParsedBy shape_a (λ f. p.first f x) (steps p.c₁ text x) text w v x.at r) where
+  by-step : {g : ℕ} {a : Result Symbol C} →
+      Gives (and_then (p.first g) (λ a. ask (in_text text) (is p.mark) (λ y. and_then (p.second g) (λ b. part (p.node y.at a b))) (p.none a))) x a → Gives (p.whole (suc g)) x a
+  by-step {g} {a} i = subst (λ m. Gives m x a) (sym (p.step g)) i
 
-module _ {text w v : List ℕ} (x : Symbol) {r : Parsed} (h : ExpressionBy text w v x r) where
-  pub arguments-bad : {b : Symbol} → r ≡ parsed.Bad b → ArgumentsBy text w v x (parsed.Bad b)
+  pub first-bad : {y : Symbol} → r ≡ parsed.Bad y → ParsedBy shape_c (λ f. p.whole f x) (steps p.c text x) text w v x.at (parsed.Bad y)
+  first-bad e = let l = p.later₁ in refuses p.whole x _ (omega arith) (λ g m. by-step (then-bad _ (given (says-bad h e g (omega arith)))))
+
+  module _ {at : ℕ} {y : Symbol} (e : r ≡ parsed.Tree at y) where
+    -- with another symbol after it, the first part goes on as it may
+    pub alone : (y.number ≡ p.mark → ⊥) → (g : ℕ) → steps p.c text x ≤ suc g → (d : Good shape_a w v at y (p.first g x)) → Gives (p.whole (suc g)) x (p.none d.tree y)
+    alone q g l d = by-step (then-part _ (given d.is) (asks-no _ _ _ _ (ne_eqb y.number p.mark q) at_once))
+
+    module _ (q : y.number ≡ p.mark) {z : Symbol} (f : Follows text y z) {u : List ℕ} {r' : Parsed}
+        (i : ParsedBy shape_b (λ f. p.second f z) (steps p.c₂ text z) text v u z.at r') where
+      -- there are steps enough for the second part
+      enough : (g : ℕ) → steps p.c text x ≤ suc g → steps p.c₂ text z ≤ g
+      enough g l =
+          let a = ahead-tree h e in
+          let m = a.2.moves (omega (arith, p.marked)) in
+          omega (arith, p.later₂, f.later, f.sound.order, f.sound.inside)
+
+      pub second-bad : {b : Symbol} → r' ≡ parsed.Bad b → ParsedBy shape_c (λ f. p.whole f x) (steps p.c text x) text w u x.at (parsed.Bad b)
+      second-bad e' = refuses p.whole x _ (omega (arith, p.later₁)) (λ g l.
+          by-step (then-part _ (given (says-tree h e g (omega (arith, p.later₁))).is) (asks-yes _ _ _ _ (eq-eqb y.number p.mark q) (omega (arith, p.marked))
+          (then-bad _ (after-that f (given (says-bad i e' g (enough g l))))))))
+
+      pub both : {at' : ℕ} {y' : Symbol} {s : List ℕ} → r' ≡ parsed.Tree at' y' → s ≡ join u y.at p.tag at at' →
+          ParsedBy shape_c (λ f. p.whole f x) (steps p.c text x) text w s x.at (parsed.Tree y.at y')
+      both e' wrote =
+          let a = ahead-tree h e in
+          let b = ahead-tree i e' in
+          let m = a.2.moves (omega (arith, p.marked)) in
+          builds p.whole x _ (omega (arith, p.later₁)) (omega (arith, a), omega (arith, b, f.later), b.2) (λ g l.
+          let d = says-tree h e g (omega (arith, p.later₁)) in
+          let k = says-tree i e' g (enough g l) in
+          paired shape_c (p.node y.at) y.at p.tag (p.shaped y.at) d k wrote
+          (by-step (then-part _ (given d.is) (asks-yes _ _ _ _ (eq-eqb y.number p.mark q) (omega (arith, p.marked))
+          (then-part _ (after-that f (given k.is)) at_once)))).gives)
+
+module _ (text : List ℕ) where
+  pub chosen-shape : (p : ℕ) (c : Tree) (b : Branches) → shape_of (chosen p c b) ≡ between p question_tag (shape_of c) (branches_shape b)
+  chosen-shape p c (branches q a b) = refl
+
+  pub conditionals-step : (g : ℕ) → expression_from text (in_text text) (suc g) ≡
+      and_then (level_from text (in_text text) g 6) (λ a. ask (in_text text) (is question) (λ y. and_then (branches_from text (in_text text) g) (λ b. part (chosen y.at a b))) (part a))
   unfolding expression_from
-  arguments-bad = part-bad (expression_from text (in_text text)) (others_from text) (arguments_from text (in_text text)) (λ g. refl) x 12 13 (omega arith) h
+  conditionals-step g = refl
 
-  pub arguments-goes : {at : ℕ} {y : Symbol} {u : List ℕ} {r' : Parsed} → r ≡ parsed.Tree at y → OthersBy text v u at y r' → ArgumentsBy text w u x r'
+  abbrev pub conditionals : Pair shape_of branches_shape shape_of text
+  conditionals = record {
+    first = λ f. level_from text (in_text text) f 6;
+    second = branches_from text (in_text text);
+    whole = expression_from text (in_text text);
+    none = part;
+    node = chosen;
+    mark = question;
+    tag = question_tag;
+    c₁ = 11;
+    c₂ = 13;
+    c = 12;
+    step = conditionals-step;
+    shaped = chosen-shape;
+    marked = omega arith;
+    later₁ = omega arith;
+    later₂ = omega arith;
+  }
+
+  pub pairs-step : (g : ℕ) → branches_from text (in_text text) (suc g) ≡
+      and_then (expression_from text (in_text text) g) (λ a. ask (in_text text) (is colon) (λ y. and_then (expression_from text (in_text text) g) (λ b. part (branches y.at a b))) (refused))
   unfolding expression_from
-  arguments-goes = part-goes (expression_from text (in_text text)) (others_from text) (arguments_from text (in_text text)) (λ g. refl) x 12 13 (omega arith) h
+  pairs-step g = refl
+
+  abbrev pub pairs : Pair shape_of shape_of branches_shape text
+  pairs = record {
+    first = expression_from text (in_text text);
+    second = expression_from text (in_text text);
+    whole = branches_from text (in_text text);
+    none = λ a. refused;
+    node = branches;
+    mark = colon;
+    tag = colon_tag;
+    c₁ = 12;
+    c₂ = 12;
+    c = 13;
+    step = pairs-step;
+    shaped = λ p a b. refl;
+    marked = omega arith;
+    later₁ = omega arith;
+    later₂ = omega arith;
+  }
+
+  pub lists-step : (g : ℕ) → arguments_from text (in_text text) (suc g) ≡
+      and_then (expression_from text (in_text text) g) (λ a. ask (in_text text) (is comma) (λ y. and_then (arguments_from text (in_text text) g) (λ b. part (next a y.at b))) (part (last a)))
+  unfolding expression_from
+  lists-step g = refl
+
+  abbrev pub lists : Pair shape_of shapes_of shapes_of text
+  lists = record {
+    first = expression_from text (in_text text);
+    second = arguments_from text (in_text text);
+    whole = arguments_from text (in_text text);
+    none = λ e. part (last e);
+    node = λ q e xs. next e q xs;
+    mark = comma;
+    tag = comma_tag;
+    c₁ = 12;
+    c₂ = 13;
+    c = 13;
+    step = lists-step;
+    shaped = λ q e xs. refl;
+    marked = omega arith;
+    later₁ = omega arith;
+    later₂ = omega arith;
+  }
+
+module _ {text w v : List ℕ} (x : Symbol) {r : Parsed} {at : ℕ} {y : Symbol} (e : r ≡ parsed.Tree at y) where
+  -- what stands before no `?` is a whole expression
+  pub expression-none : LevelBy 6 text w v x r → (y.number ≡ question → ⊥) → ExpressionBy text w v x (parsed.Tree at y)
+  expression-none h q = builds (expression_from text (in_text text)) x _ (omega arith) (ahead-tree h e) (λ g l.
+      let d = says-tree h e g (omega arith) in
+      record { tree = d.tree; is = (alone (conditionals text) x h e q g l d).gives; rooted = d.rooted; wrote = d.wrote })
+
+  -- a first branch without its `:` is refused at what follows
+  pub branches-none : ExpressionBy text w v x r → (y.number ≡ colon → ⊥) → BranchesBy text w v x (parsed.Bad y)
+  branches-none h q = refuses (branches_from text (in_text text)) x _ (omega arith) (λ g l. alone (pairs text) x h e q g l (says-tree h e g (omega arith)))
+
+  -- an argument without a comma after it is the last
+  pub arguments-last : ExpressionBy text w v x r → (y.number ≡ comma → ⊥) → ArgumentsBy text w v x (parsed.Tree at y)
+  arguments-last h q = builds (arguments_from text (in_text text)) x _ (omega arith) (ahead-tree h e) (λ g l.
+      let d = says-tree h e g (omega arith) in
+      record { tree = last d.tree; is = (alone (lists text) x h e q g l d).gives; rooted = d.rooted; wrote = d.wrote })
 
 -- ---- binary operators
 
@@ -70,13 +197,26 @@ module _ {text w v : List ℕ} (k : ℕ) (x : Symbol) {r : Parsed} where
 
 -- a level is one more than that of its operands
 module _ {text w v : List ℕ} (j : ℕ) (x : Symbol) {r : Parsed} (h : LevelBy j text w v x r) where
-  pub level-bad : {y : Symbol} → r ≡ parsed.Bad y → LevelBy (suc j) text w v x (parsed.Bad y)
+  level-bad : {y : Symbol} → r ≡ parsed.Bad y → LevelBy (suc j) text w v x (parsed.Bad y)
   unfolding expression_from
-  level-bad = part-bad (λ f. level_from text (in_text text) f j) (λ f. tail_from text (in_text text) f j) (λ f. level_from text (in_text text) f (suc j)) (λ g. refl) x (5 + j) (5 + suc j) (omega arith) h
+  level-bad e = refuses (λ f. level_from text (in_text text) f (suc j)) x _ (omega arith) (λ g l. then-bad _ (given (says-bad h e g (omega arith))))
 
-  pub level-goes : {at : ℕ} {y : Symbol} {u : List ℕ} {r' : Parsed} → r ≡ parsed.Tree at y → TailBy j text v u at y r' → LevelBy (suc j) text w u x r'
-  unfolding expression_from
-  level-goes = part-goes (λ f. level_from text (in_text text) f j) (λ f. tail_from text (in_text text) f j) (λ f. level_from text (in_text text) f (suc j)) (λ g. refl) x (5 + j) (5 + suc j) (omega arith) h
+  level-goes : {at : ℕ} {y : Symbol} {u : List ℕ} {r' : Parsed} → r ≡ parsed.Tree at y → TailBy j text v u at y r' → LevelBy (suc j) text w u x r'
+  unfolding expression_from and_then
+  level-goes {u = u} {r' = r'} e t =
+      let a = ahead-tree h e in
+      record {
+        ahead = ahead-wider text x.at r' a.0 t.ahead;
+        says = stepped (λ f. Agrees shape_of w u r' (level_from text (in_text text) f (suc j) x)) (omega arith) (λ g l.
+            goes_on (λ f. tail_from text (in_text text) f j) _ t g (omega (arith, a.2.order, a.2.inside)) (says-tree h e g (omega arith)));
+      }
+
+module _ {text w v : List ℕ} (k j : ℕ) (x : Symbol) {r : Parsed} (e : k ≡ suc j) (h : LevelBy j text w v x r) where
+  pub binary-bad : {y : Symbol} → r ≡ parsed.Bad y → LevelBy k text w v x (parsed.Bad y)
+  binary-bad {y} i = subst (λ k. LevelBy k text w v x (parsed.Bad y)) (sym e) (level-bad j x h i)
+
+  pub binary-goes : {at : ℕ} {y : Symbol} {u : List ℕ} {r' : Parsed} → r ≡ parsed.Tree at y → TailBy j text v u at y r' → LevelBy k text w u x r'
+  binary-goes {u = u} {r' = r'} i t = subst (λ k. LevelBy k text w u x r') (sym e) (level-goes j x h i t)
 
 pub operator-number : (n k : ℕ) → precedence_of n ≡ suc k → (1 < n) × (n < 15)
 unfolding precedence_of
@@ -171,11 +311,17 @@ module _ {text w v : List ℕ} (x : Symbol) {r : Parsed} where
 module _ {text w v : List ℕ} (x : Symbol) {r : Parsed} (h : PrimaryBy text w v x r) where
   pub postfix-bad : {b : Symbol} → r ≡ parsed.Bad b → PostfixBy text w v x (parsed.Bad b)
   unfolding expression_from
-  postfix-bad = part-bad (primary_from text (in_text text)) (picks_from text (in_text text)) (postfix_from text (in_text text)) (λ g. refl) x 2 3 (omega arith) h
+  postfix-bad e = refuses (postfix_from text (in_text text)) x _ (omega arith) (λ g l. then-bad _ (given (says-bad h e g (omega arith))))
 
   pub postfix-goes : {at : ℕ} {y : Symbol} {u : List ℕ} {r' : Parsed} → r ≡ parsed.Tree at y → PicksBy text v u at y r' → PostfixBy text w u x r'
-  unfolding expression_from
-  postfix-goes = part-goes (primary_from text (in_text text)) (picks_from text (in_text text)) (postfix_from text (in_text text)) (λ g. refl) x 2 3 (omega arith) h
+  unfolding expression_from and_then
+  postfix-goes {u = u} {r' = r'} e t =
+      let a = ahead-tree h e in
+      record {
+        ahead = ahead-wider text x.at r' a.0 t.ahead;
+        says = stepped (λ f. Agrees shape_of w u r' (postfix_from text (in_text text) f x)) (omega arith) (λ g l.
+            goes_on (picks_from text (in_text text)) _ t g (omega (arith, a.2.order, a.2.inside)) (says-tree h e g (omega arith)));
+      }
 
 -- ---- brackets
 

@@ -1,5 +1,5 @@
 -- Unknown names: the leftmost of several, and those of a tree by the node at its place.
-use mathlib.Core.Path.{◌≡◌, refl, ap, ◌∙◌}
+use mathlib.Core.Path.{◌≡◌, refl}
 use mathlib.Core.Bool.{Bool, true, false}
 use mathlib.Core.List.{List, [], ◌∷◌, ◌++◌, map}
 use mathlib.Core.Logic.{inl, inr}
@@ -24,7 +24,7 @@ use Rattle.syntax.specs.Names.{unknown_function, unknown_colour, unknown_member,
 use Rattle.syntax.specs.Inner.{earlier_of, first_in, first_at}
 use Rattle.syntax.specs.declared.names.Leftmost.{Leftmost}
 use Rattle.syntax.specs.declared.names.Leftmost.TheVariants.{At, Nothing}
-use Rattle.syntax.proofs.Law.Nodes.{tree-step, arguments-end, arguments-step}
+use Rattle.syntax.proofs.Law.Nodes.{tree-step}
 
 -- ---- the leftmost
 
@@ -43,11 +43,7 @@ lesser-earlier p (At q) (At r) = go (ltb r q) (ltb q p) refl refl
     go false true x y = simp (x, y)
     go false false x y = simp (x, y, le-ltb r p (omega (arith, ltb-false r q x, ltb-false q p y)))
 
-earlier-grouped : (a b c : Leftmost) → earlier_of a (earlier_of b c) ≡ earlier_of (earlier_of a b) c
-earlier-grouped (At p) b c = lesser-earlier p b c
-earlier-grouped Nothing b c = refl
-
-leftmost-append : (xs ys : List ℕ) → leftmost_of (xs ++ ys) ≡ earlier_of (leftmost_of xs) (leftmost_of ys)
+pub leftmost-append : (xs ys : List ℕ) → leftmost_of (xs ++ ys) ≡ earlier_of (leftmost_of xs) (leftmost_of ys)
 leftmost-append [] ys = refl
 leftmost-append (p ∷ xs) ys = rw (leftmost-append xs ys) (lesser-earlier p (leftmost_of xs) (leftmost_of ys))
 
@@ -80,29 +76,6 @@ pub unknown-step : (text w : List ℕ) (p h : ℕ) (n : Node) → (h ≡ 0 → �
     leftmost_of (unknown_in text (tree_at h w p)) ≡
     unknown_by text n p (λ q. leftmost_of (unknown_in text (tree_at (h - 1) w q))) (arguments_at (tree_at (h - 1) w) most_commas w)
 unknown-step text w p h n some e = rw (tree-step w p h n some e) (unknown-grown text n p (tree_at (h - 1) w) (arguments_at (tree_at (h - 1) w) most_commas w))
-
--- ---- arguments, one after the other
-
--- the leftmost of what was found before and of the unknown names in the arguments at a place, with n commas at most
-abbrev pub unknown_from : List ℕ → ℕ → List ℕ → Leftmost → ℕ → ℕ → Leftmost
-unknown_from text h w found n p = earlier_of found (leftmost_of (unknown_in_all text (arguments_at (tree_at h w) n w p)))
-
-module _ (text : List ℕ) (h : ℕ) (w : List ℕ) (found : Leftmost) (n p : ℕ) where
-  pub unknown-none : n ≡ 0 → unknown_from text h w found n p ≡ earlier_of found (leftmost_of (unknown_in text (tree_at h w p)))
-  unfolding unknown_in
-  unknown-none e = rw (arguments-end _ _ _ _ e)
-
-  pub unknown-last : (n ≡ 0 → ⊥) → Last ≡ argument_at w p → unknown_from text h w found n p ≡ earlier_of found (leftmost_of (unknown_in text (tree_at h w p)))
-  unfolding unknown_in
-  unknown-last some e = rw (arguments-step _ _ _ _ _ some e)
-
-  pub unknown-next : (e rest : ℕ) → (n ≡ 0 → ⊥) → Next e rest ≡ argument_at w p →
-      unknown_from text h w found n p ≡ unknown_from text h w (earlier_of found (leftmost_of (unknown_in text (tree_at h w e)))) (n - 1) rest
-  unfolding unknown_in
-  unknown-next e rest some i =
-      let a = unknown_in text (tree_at h w e) in
-      let b = unknown_in_all text (arguments_at (tree_at h w) (n - 1) w rest) in
-      rw (arguments-step _ _ _ _ _ some i) (ap (earlier_of found) (leftmost-append a b) ∙ earlier-grouped found (leftmost_of a) (leftmost_of b))
 
 -- ---- the first argument
 

@@ -24,10 +24,9 @@ module _ {A : Type 0} {shape : A → Shape} {spec : ℕ → Result Symbol A} {fu
   says-bad e f l = subst (λ (r : Parsed). Agrees shape w v r (spec f)) e (h.says f l)
 
 -- what goes on from a part, once the part is known
-module _ {A : Type 0} {shape : A → Shape} (k : ℕ → Tree → Symbol → Result Symbol A) {fuel : ℕ} {text w v : List ℕ} {at : ℕ} (x : Symbol) {r : Parsed}
-    (h : TailedBy shape (λ f e. k f e x) fuel text w v at r) where
-  pub goes_on : (f : ℕ) → fuel ≤ f → {u : List ℕ} {m : Result Symbol Tree} → Good shape_of u w at x m → Agrees shape u v r (on_part m (k f))
-  goes_on f l {u} d = subst (λ m. Agrees shape u v r (on_part m (k f))) (sym d.is) (h.says f l u d.tree d.wrote d.rooted)
+module _ (k : ℕ → Tree → Symbol → Result Symbol Tree) {fuel : ℕ} {text w v : List ℕ} {at : ℕ} (x : Symbol) {r : Parsed} (h : TailedBy (λ f e. k f e x) fuel text w v at r) where
+  pub goes_on : (f : ℕ) → fuel ≤ f → {u : List ℕ} {m : Result Symbol Tree} → Good shape_of u w at x m → Agrees shape_of u v r (on_part m (k f))
+  goes_on f l {u} d = subst (λ m. Agrees shape_of u v r (on_part m (k f))) (sym d.is) (h.says f l u d.tree d.wrote d.rooted)
 
 -- what holds at each step past the first holds where there are steps enough
 pub stepped : {fuel : ℕ} (P : ℕ → Type 0) → 0 < fuel → ((g : ℕ) → fuel ≤ suc g → P (suc g)) → (f : ℕ) → fuel ≤ f → P f

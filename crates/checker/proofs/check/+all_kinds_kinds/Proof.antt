@@ -1,4 +1,4 @@
-use Prim.Native.Nat.{ℕ, ◌<◌}
+use Prim.Native.Nat.{ℕ, ◌+◌, ◌*◌, ◌<◌}
 use borrow.Fn.Kinds.{In}
 use borrow.Fn.PlainCycle.{Measures, is, falls, and}
 use Rattle.checker.proofs.check.all_kinds.Reads as all_kinds
@@ -23,23 +23,21 @@ use Rattle.value.proofs.name.function_at.Reads as function-at-reads
 use Rattle.value.proofs.name.pick_at.Reads as pick-at-reads
 use Rattle.checker.proofs.check.+all_kinds_kinds.{statement}
 use Rattle.checker.proofs.check.+all_kinds_kinds.Tie.{close}
-use Prim.Native.Nat.{◌+◌, ◌*◌}
-use mathlib.Core.Path.{◌≡◌, refl, sym, ◌∙◌}
-use native.Mathlib.Omega.{arith}
+use mathlib.Core.Path.{sym, ◌∙◌}
 use borrow.Author.Rules.{rules}
 use Rattle.kind.specs.Set.{set_of, single_of}
 use Rattle.tree.specs.Node.{tree_at}
-use Rattle.checker.specs.Property.{set_at}
+use Rattle.syntax.proofs.Law.Nodes.{arguments-end, arguments-step}
 use Rattle.checker.specs.Kinds.{kinds_of}
-use Rattle.checker.proofs.Law.Checks.{node-all, kinds-step, known_from, known-none, known-last, known_next}
+use Rattle.checker.proofs.Law.Checks.{node-all, kinds-step}
 
--- All arguments are a step more than the tree at one of them.
+-- Each level of the allowance is worth more than the most commas, and a comma more than the tree at its argument.
 
 abbrev μ-all-kinds : Measures 2 all-kinds-kinds.ps ℕ
-μ-all-kinds κs a = a.1.1.1.0 * 2 + 1
+μ-all-kinds κs a = a.1.1.1.0 * 1026 + a.1.1.1.1.0 + 1
 
 abbrev μ-kinds : Measures 2 kinds-kinds.ps ℕ
-μ-kinds κs a = a.1.1.1.0 * 2
+μ-kinds κs a = a.1.1.1.0 * 1026
 
 abbrev all-kinds-at : ℕ → In 2 all-kinds-kinds.ps
 all-kinds-at t = and 2 all-kinds-kinds.ps (is 2 all-kinds-kinds.ps μ-all-kinds t) all_kinds.Pre
@@ -54,81 +52,83 @@ abbrev kinds-below : ℕ → In 2 kinds-kinds.ps
 kinds-below t = and 2 kinds-kinds.ps (falls 2 kinds-kinds.ps ◌<◌ μ-kinds t) kinds.Pre
 
 abbrev all-kinds-uses : ℕ → all-kinds-lts.Claims
-all-kinds-uses t = (argument-at-reads.Asked, argument-at-reads.Learnt, kinds-below t, kinds.Post, with-one-reads.Asked, with-one-reads.Learnt)
+all-kinds-uses t = (kinds-below t, kinds.Post, with-one-reads.Asked, with-one-reads.Learnt, argument-at-reads.Asked, argument-at-reads.Learnt, all-kinds-below t, all_kinds.Post)
 
 abbrev kinds-uses : ℕ → kinds-lts.Claims
 kinds-uses t = (node-at-reads.Asked, node-at-reads.Learnt, literal-kinds-reads.Asked, literal-kinds-reads.Learnt, set-at-reads.Asked, set-at-reads.Learnt, prefix-at-reads.Asked, prefix-at-reads.Learnt, kinds-below t, kinds.Post, node1-reads.Asked, node1-reads.Learnt, infix-at-reads.Asked, infix-at-reads.Learnt, node2-reads.Asked, node2-reads.Learnt, conditional-reads.Asked, conditional-reads.Learnt, function-at-reads.Asked, function-at-reads.Learnt, node0-reads.Asked, node0-reads.Learnt, all-kinds-below t, all_kinds.Post, node-reads.Asked, node-reads.Learnt, pick-at-reads.Asked, pick-at-reads.Learnt)
 
-abbrev all-kinds-Inv-loop : all-kinds-lts.invariant-loop
-all-kinds-Inv-loop slots plan at allowance commas known₀ here₀ left₀ known here left = known_from (λ p n. set_at plan n) allowance slots known left here ≡ known_from (λ p n. set_at plan n) allowance slots known₀ left₀ here₀
-
-abbrev all-kinds-μ-loop : all-kinds-lts.decreases-loop
-all-kinds-μ-loop slots plan at allowance commas known₀ here₀ left₀ known here left = left
-
-all-kinds-loop-holds : (t : ℕ) → all-kinds-lts.Need-loop-init (all-kinds-uses t) (all-kinds-at t) all_kinds.Post all-kinds-Inv-loop all-kinds-μ-loop
-all-kinds-loop-holds t c = refl
-
-all-kinds-argument-at-requires : (t : ℕ) → all-kinds-lts.Need-argument-at-requires (all-kinds-uses t) (all-kinds-at t) all_kinds.Post all-kinds-Inv-loop all-kinds-μ-loop
-all-kinds-argument-at-requires t c κs = search rules
-
-all-kinds-enum-told : (t : ℕ) → all-kinds-lts.Need-enum-told (all-kinds-uses t) (all-kinds-at t) all_kinds.Post all-kinds-Inv-loop all-kinds-μ-loop
-all-kinds-enum-told t c = search rules
-
-all-kinds-kinds-requires : (t : ℕ) → all-kinds-lts.Need-kinds-requires (all-kinds-uses t) (all-kinds-at t) all_kinds.Post all-kinds-Inv-loop all-kinds-μ-loop
+all-kinds-kinds-requires : (t : ℕ) → all-kinds-lts.Need-kinds-requires (all-kinds-uses t) (all-kinds-at t) all_kinds.Post
 all-kinds-kinds-requires t c κs = search rules
 
-all-kinds-with-one-requires : (t : ℕ) → all-kinds-lts.Need-with-one-requires (all-kinds-uses t) (all-kinds-at t) all_kinds.Post all-kinds-Inv-loop all-kinds-μ-loop
+all-kinds-with-one-requires : (t : ℕ) → all-kinds-lts.Need-with-one-requires (all-kinds-uses t) (all-kinds-at t) all_kinds.Post
 all-kinds-with-one-requires t c κs = search rules
 
-all-kinds-returns : (t : ℕ) → all-kinds-lts.Need-returns (all-kinds-uses t) (all-kinds-at t) all_kinds.Post all-kinds-Inv-loop all-kinds-μ-loop
+all-kinds-returns : (t : ℕ) → all-kinds-lts.Need-returns (all-kinds-uses t) (all-kinds-at t) all_kinds.Post
+unfolding kinds_of
 all-kinds-returns t c =
     let with-one' = c.with-one in
     let c1 = c.before in
     let kinds' = c1.kinds in
     let c2 = c1.before in
+    let if1' = c2.if1 in
+    rw (arguments-end _ _ _ _ if1'.true, with-one'.ensures, kinds'.ensures)
+
+all-kinds-argument-at-requires : (t : ℕ) → all-kinds-lts.Need-argument-at-requires (all-kinds-uses t) (all-kinds-at t) all_kinds.Post
+all-kinds-argument-at-requires t c κs = search rules
+
+all-kinds-enum-told : (t : ℕ) → all-kinds-lts.Need-enum-told (all-kinds-uses t) (all-kinds-at t) all_kinds.Post
+all-kinds-enum-told t c = search rules
+
+all-kinds-kinds-requires-2 : (t : ℕ) → all-kinds-lts.Need-kinds-requires-2 (all-kinds-uses t) (all-kinds-at t) all_kinds.Post
+all-kinds-kinds-requires-2 t c κs = search rules
+
+all-kinds-with-one-requires-2 : (t : ℕ) → all-kinds-lts.Need-with-one-requires-2 (all-kinds-uses t) (all-kinds-at t) all_kinds.Post
+all-kinds-with-one-requires-2 t c κs = search rules
+
+all-kinds-enum-known-first : (t : ℕ) → all-kinds-lts.Need-enum-known-first (all-kinds-uses t) (all-kinds-at t) all_kinds.Post
+all-kinds-enum-known-first t c = search rules
+
+all-kinds-kinds-requires-3 : (t : ℕ) → all-kinds-lts.Need-kinds-requires-3 (all-kinds-uses t) (all-kinds-at t) all_kinds.Post
+all-kinds-kinds-requires-3 t c κs = search rules
+
+all-kinds-with-one-requires-3 : (t : ℕ) → all-kinds-lts.Need-with-one-requires-3 (all-kinds-uses t) (all-kinds-at t) all_kinds.Post
+all-kinds-with-one-requires-3 t c κs = search rules
+
+all-kinds-sub-all-kinds : (t : ℕ) → all-kinds-lts.Need-overflow-sub-all-kinds (all-kinds-uses t) (all-kinds-at t) all_kinds.Post
+all-kinds-sub-all-kinds t c = search rules
+
+all-kinds-all-kinds-requires : (t : ℕ) → all-kinds-lts.Need-all-kinds-requires (all-kinds-uses t) (all-kinds-at t) all_kinds.Post
+all-kinds-all-kinds-requires t c κs = search rules
+
+all-kinds-returns-2 : (t : ℕ) → all-kinds-lts.Need-returns-2 (all-kinds-uses t) (all-kinds-at t) all_kinds.Post
+unfolding kinds_of
+all-kinds-returns-2 t c =
+    let with-one2' = c.with-one2 in
+    let c1 = c.before in
+    let kinds2' = c1.kinds2 in
+    let c2 = c1.before in
     let enum-told' = c2.enum_told in
     let c3 = c2.before.before in
     let argument-at' = c3.argument-at in
     let c4 = c3.before in
-    let loop-test' = c4.loop-test in
-    let c5 = c4.before in
-    let loop' = c5.loop in
-    rw (with-one'.ensures, kinds'.ensures) (sym (known-last _ _ _ _ _ _ (omega (arith, loop-test')) (sym enum-told'.given.1 ∙ argument-at'.ensures)) ∙ loop'.invariant)
+    let if1' = c4.if1 in
+    rw (arguments-step _ _ _ _ _ if1'.false (sym enum-told'.given.1 ∙ argument-at'.ensures), with-one2'.ensures, kinds2'.ensures)
 
-all-kinds-enum-known-first : (t : ℕ) → all-kinds-lts.Need-enum-known-first (all-kinds-uses t) (all-kinds-at t) all_kinds.Post all-kinds-Inv-loop all-kinds-μ-loop
-all-kinds-enum-known-first t c = search rules
-
-all-kinds-kinds-requires-2 : (t : ℕ) → all-kinds-lts.Need-kinds-requires-2 (all-kinds-uses t) (all-kinds-at t) all_kinds.Post all-kinds-Inv-loop all-kinds-μ-loop
-all-kinds-kinds-requires-2 t c κs = search rules
-
-all-kinds-with-one-requires-2 : (t : ℕ) → all-kinds-lts.Need-with-one-requires-2 (all-kinds-uses t) (all-kinds-at t) all_kinds.Post all-kinds-Inv-loop all-kinds-μ-loop
-all-kinds-with-one-requires-2 t c κs = search rules
-
-all-kinds-sub-left : (t : ℕ) → all-kinds-lts.Need-overflow-sub-left (all-kinds-uses t) (all-kinds-at t) all_kinds.Post all-kinds-Inv-loop all-kinds-μ-loop
-all-kinds-sub-left t c = omega (arith, c.before.before.before.before.before.before.loop-test)
-
-all-kinds-loop-less : (t : ℕ) → all-kinds-lts.Need-loop-smaller (all-kinds-uses t) (all-kinds-at t) all_kinds.Post all-kinds-Inv-loop all-kinds-μ-loop
-all-kinds-loop-less t c = omega (arith, c.before.before.before.before.before.before.loop-test)
-
-all-kinds-loop-again : (t : ℕ) → all-kinds-lts.Need-loop-preserved (all-kinds-uses t) (all-kinds-at t) all_kinds.Post all-kinds-Inv-loop all-kinds-μ-loop
-all-kinds-loop-again t c = rw (c.with-one2.ensures, c.before.kinds2.ensures) (sym (known_next _ _ _ _ _ _ _ _ (omega (arith, c.before.before.before.before.before.before.loop-test)) (sym c.before.before.before.first.given.1 ∙ c.before.before.before.before.before.argument-at.ensures)) ∙ c.before.before.before.before.before.before.before.loop.invariant)
-
-all-kinds-kinds-requires-3 : (t : ℕ) → all-kinds-lts.Need-kinds-requires-3 (all-kinds-uses t) (all-kinds-at t) all_kinds.Post all-kinds-Inv-loop all-kinds-μ-loop
-all-kinds-kinds-requires-3 t c κs = search rules
-
-all-kinds-with-one-requires-3 : (t : ℕ) → all-kinds-lts.Need-with-one-requires-3 (all-kinds-uses t) (all-kinds-at t) all_kinds.Post all-kinds-Inv-loop all-kinds-μ-loop
-all-kinds-with-one-requires-3 t c κs = search rules
-
-all-kinds-returns-2 : (t : ℕ) → all-kinds-lts.Need-returns-2 (all-kinds-uses t) (all-kinds-at t) all_kinds.Post all-kinds-Inv-loop all-kinds-μ-loop
-all-kinds-returns-2 t c =
-    let with-one3' = c.with-one3 in
+all-kinds-returns-3 : (t : ℕ) → all-kinds-lts.Need-returns-3 (all-kinds-uses t) (all-kinds-at t) all_kinds.Post
+unfolding kinds_of
+all-kinds-returns-3 t c =
+    let all-kinds' = c.all_kinds in
     let c1 = c.before in
-    let kinds3' = c1.kinds3 in
+    let with-one3' = c1.with-one3 in
     let c2 = c1.before in
-    let loop-test' = c2.loop-test in
-    let c3 = c2.before in
-    let loop' = c3.loop in
-    rw (with-one3'.ensures, kinds3'.ensures) (sym (known-none _ _ _ _ _ _ (omega (arith, loop-test'))) ∙ loop'.invariant)
+    let kinds3' = c2.kinds3 in
+    let c3 = c2.before.before in
+    let first' = c3.first in
+    let c4 = c3.before.before in
+    let argument-at' = c4.argument-at in
+    let c5 = c4.before in
+    let if1' = c5.if1 in
+    rw (arguments-step _ _ _ _ _ if1'.false (sym first'.given.1 ∙ argument-at'.ensures), all-kinds'.ensures, with-one3'.ensures, kinds3'.ensures)
 
 kinds-returns : (t : ℕ) → kinds-lts.Need-returns (kinds-uses t) (kinds-at t) kinds.Post
 unfolding tree_at kinds_of set_of single_of
@@ -346,5 +346,5 @@ kinds-returns-9 t c =
 pub +all-kinds-kinds-spec : {M : Type 1} → statement M
 +all-kinds-kinds-spec =
     close μ-all-kinds μ-kinds
-    (λ t. all-kinds-lts.spec (all-kinds-uses t) (all-kinds-at t) all_kinds.Post all-kinds-Inv-loop all-kinds-μ-loop (all-kinds-loop-holds t) (all-kinds-argument-at-requires t) (all-kinds-enum-told t) (all-kinds-kinds-requires t) (all-kinds-with-one-requires t) (all-kinds-returns t) (all-kinds-enum-known-first t) (all-kinds-kinds-requires-2 t) (all-kinds-with-one-requires-2 t) (all-kinds-sub-left t) (all-kinds-loop-less t) (all-kinds-loop-again t) (all-kinds-kinds-requires-3 t) (all-kinds-with-one-requires-3 t) (all-kinds-returns-2 t))
+    (λ t. all-kinds-lts.spec (all-kinds-uses t) (all-kinds-at t) all_kinds.Post (all-kinds-kinds-requires t) (all-kinds-with-one-requires t) (all-kinds-returns t) (all-kinds-argument-at-requires t) (all-kinds-enum-told t) (all-kinds-kinds-requires-2 t) (all-kinds-with-one-requires-2 t) (all-kinds-enum-known-first t) (all-kinds-kinds-requires-3 t) (all-kinds-with-one-requires-3 t) (all-kinds-sub-all-kinds t) (all-kinds-all-kinds-requires t) (all-kinds-returns-2 t) (all-kinds-returns-3 t))
     (λ t. kinds-lts.spec (kinds-uses t) (kinds-at t) kinds.Post (kinds-returns t) (kinds-sub-rest t) (kinds-node-at-requires t) (kinds-enum-known-form t) (kinds-literal-kinds-requires t) (kinds-enum-known-number t) (kinds-set-at-requires t) (kinds-enum-known-operator t) (kinds-prefix-at-requires t) (kinds-kinds-requires t) (kinds-node1-requires t) (kinds-enum-known-operator-2 t) (kinds-kinds-requires-2 t) (kinds-kinds-requires-3 t) (kinds-infix-at-requires t) (kinds-node2-requires t) (kinds-enum-known-test t) (kinds-kinds-requires-4 t) (kinds-kinds-requires-5 t) (kinds-kinds-requires-6 t) (kinds-conditional-requires t) (kinds-enum-known-function t) (kinds-function-at-requires t) (kinds-node0-requires t) (kinds-enum-known-function-2 t) (kinds-all-kinds-requires t) (kinds-function-at-requires-2 t) (kinds-node-requires t) (kinds-enum-known-index t) (kinds-pick-at-requires t) (kinds-kinds-requires-7 t) (kinds-node1-requires-2 t) (kinds-returns-2 t) (kinds-returns-3 t) (kinds-returns-4 t) (kinds-returns-5 t) (kinds-returns-6 t) (kinds-returns-7 t) (kinds-returns-8 t) (kinds-returns-9 t))

@@ -1,20 +1,18 @@
+-- `keep` moves byte by byte. The invariant: what is kept ends no later than what is left begins.
 use borrow.Author.Rules.{rules}
 use Rattle.ledger.proofs.input.keep.Statement.{statement}
 use Rattle.ledger.proofs.input.keep.Tie as tie
-use Rattle.ledger.proofs.input.keep.Reads as reads
-use Rattle.ledger.proofs.input.keep.Lts as lts
-use mathlib.Core.Path.{◌≡◌, refl, sym, ◌∙◌}
-use Prim.Native.Nat.{◌+◌, ◌-◌, ◌≤◌, max}
-use native.Mathlib.Omega.{arith}
+use Prim.Native.Nat.{◌≤◌, ◌-◌}
+use mathlib.Core.Path.{◌≡◌}
 use lib.ListN.{length}
 
 abbrev invariant-loop : tie.invariant-loop
-invariant-loop block₀ from held at₀ kept₀ block at kept =
-    (length block ≡ length block₀) × (at ≡ from + kept) × (at ≤ max from held)
+invariant-loop block₀ from at₀ kept₀ block at kept =
+    (length block ≡ length block₀) × (kept ≤ at) × (at ≤ length block₀)
 
 abbrev decreases-loop : tie.decreases-loop
-decreases-loop block₀ from held at₀ kept₀ block at kept =
-    held - at
+decreases-loop block₀ from at₀ kept₀ block at kept =
+    length block₀ - at
 
 loop-holds : tie.Need-loop-init invariant-loop decreases-loop
 loop-holds c = search rules

@@ -1,4 +1,4 @@
-use Prim.Native.Nat.{ℕ, ◌<◌}
+use Prim.Native.Nat.{ℕ, ◌+◌, ◌*◌, ◌<◌}
 use borrow.Fn.Kinds.{In}
 use borrow.Fn.PlainCycle.{Measures, is, falls, and}
 use Rattle.syntax.proofs.height.are_within.Reads as are-within
@@ -11,22 +11,20 @@ use Rattle.tree.proofs.node.argument_at.Reads as argument-at-reads
 use Rattle.tree.proofs.node.node_at.Reads as node-at-reads
 use Rattle.syntax.proofs.height.+are_within_is_within.{statement}
 use Rattle.syntax.proofs.height.+are_within_is_within.Tie.{close}
-use Prim.Native.Nat.{◌+◌, ◌*◌}
-use mathlib.Core.Path.{◌≡◌, refl, sym, ◌∙◌}
-use native.Mathlib.Omega.{arith}
+use mathlib.Core.Path.{sym, ◌∙◌}
 use borrow.Author.Rules.{rules}
-use borrow.Author.Tests.{not-true, not-false}
 use Rattle.syntax.specs.Height.{height_of}
 use Rattle.tree.specs.Node.{tree_at}
-use Rattle.syntax.proofs.Law.Heights.{within_step, within_from, within_none, within-last, within-not, within-next}
+use Rattle.syntax.proofs.Law.Nodes.{arguments-end, arguments-step}
+use Rattle.syntax.proofs.Law.Heights.{leb-max, within_step}
 
--- All arguments are a step more than the tree at one of them.
+-- Each level of the allowance is worth more than the most commas, and a comma more than the tree at its argument.
 
 abbrev μ-are-within : Measures 1 are-within-kinds.ps ℕ
-μ-are-within κs a = a.1.1.0 * 2 + 1
+μ-are-within κs a = a.1.1.0 * 1026 + a.1.1.1.0 + 1
 
 abbrev μ-is-within : Measures 1 is-within-kinds.ps ℕ
-μ-is-within κs a = a.1.1.0 * 2
+μ-is-within κs a = a.1.1.0 * 1026
 
 abbrev are-within-at : ℕ → In 1 are-within-kinds.ps
 are-within-at t = and 1 are-within-kinds.ps (is 1 are-within-kinds.ps μ-are-within t) are-within.Pre
@@ -41,83 +39,68 @@ abbrev is-within-below : ℕ → In 1 is-within-kinds.ps
 is-within-below t = and 1 is-within-kinds.ps (falls 1 is-within-kinds.ps ◌<◌ μ-is-within t) is_within.Pre
 
 abbrev are-within-uses : ℕ → are-within-lts.Claims
-are-within-uses t = (argument-at-reads.Asked, argument-at-reads.Learnt, is-within-below t, is_within.Post)
+are-within-uses t = (is-within-below t, is_within.Post, argument-at-reads.Asked, argument-at-reads.Learnt, are-within-below t, are-within.Post)
 
 abbrev is-within-uses : ℕ → is-within-lts.Claims
 is-within-uses t = (node-at-reads.Asked, node-at-reads.Learnt, is-within-below t, is_within.Post, are-within-below t, are-within.Post)
 
-abbrev are-within-Inv-loop : are-within-lts.invariant-loop
-are-within-Inv-loop slots at allowance commas here₀ left₀ here left = within_from allowance slots left here ≡ within_from allowance slots left₀ here₀
-
-abbrev are-within-μ-loop : are-within-lts.decreases-loop
-are-within-μ-loop slots at allowance commas here₀ left₀ here left = left
-
-are-within-loop-holds : (t : ℕ) → are-within-lts.Need-loop-init (are-within-uses t) (are-within-at t) are-within.Post are-within-Inv-loop are-within-μ-loop
-are-within-loop-holds t c = refl
-
-are-within-argument-at-requires : (t : ℕ) → are-within-lts.Need-argument-at-requires (are-within-uses t) (are-within-at t) are-within.Post are-within-Inv-loop are-within-μ-loop
-are-within-argument-at-requires t c κs = search rules
-
-are-within-enum-told : (t : ℕ) → are-within-lts.Need-enum-told (are-within-uses t) (are-within-at t) are-within.Post are-within-Inv-loop are-within-μ-loop
-are-within-enum-told t c = search rules
-
-are-within-is-within-requires : (t : ℕ) → are-within-lts.Need-is-within-requires (are-within-uses t) (are-within-at t) are-within.Post are-within-Inv-loop are-within-μ-loop
+are-within-is-within-requires : (t : ℕ) → are-within-lts.Need-is-within-requires (are-within-uses t) (are-within-at t) are-within.Post
 are-within-is-within-requires t c κs = search rules
 
-are-within-returns : (t : ℕ) → are-within-lts.Need-returns (are-within-uses t) (are-within-at t) are-within.Post are-within-Inv-loop are-within-μ-loop
+are-within-returns : (t : ℕ) → are-within-lts.Need-returns (are-within-uses t) (are-within-at t) are-within.Post
+unfolding height_of
 are-within-returns t c =
     let is-within' = c.is_within in
+    let c1 = c.before in
+    let if1' = c1.if1 in
+    rw (arguments-end _ _ _ _ if1'.true) is-within'.ensures
+
+are-within-argument-at-requires : (t : ℕ) → are-within-lts.Need-argument-at-requires (are-within-uses t) (are-within-at t) are-within.Post
+are-within-argument-at-requires t c κs = search rules
+
+are-within-enum-told : (t : ℕ) → are-within-lts.Need-enum-told (are-within-uses t) (are-within-at t) are-within.Post
+are-within-enum-told t c = search rules
+
+are-within-is-within-requires-2 : (t : ℕ) → are-within-lts.Need-is-within-requires-2 (are-within-uses t) (are-within-at t) are-within.Post
+are-within-is-within-requires-2 t c κs = search rules
+
+are-within-enum-known-first : (t : ℕ) → are-within-lts.Need-enum-known-first (are-within-uses t) (are-within-at t) are-within.Post
+are-within-enum-known-first t c = search rules
+
+are-within-is-within-requires-3 : (t : ℕ) → are-within-lts.Need-is-within-requires-3 (are-within-uses t) (are-within-at t) are-within.Post
+are-within-is-within-requires-3 t c κs = search rules
+
+are-within-sub-are-within : (t : ℕ) → are-within-lts.Need-overflow-sub-are-within (are-within-uses t) (are-within-at t) are-within.Post
+are-within-sub-are-within t c = search rules
+
+are-within-are-within-requires : (t : ℕ) → are-within-lts.Need-are-within-requires (are-within-uses t) (are-within-at t) are-within.Post
+are-within-are-within-requires t c κs = search rules
+
+are-within-returns-2 : (t : ℕ) → are-within-lts.Need-returns-2 (are-within-uses t) (are-within-at t) are-within.Post
+unfolding height_of
+are-within-returns-2 t c =
+    let is-within2' = c.is-within2 in
     let c1 = c.before in
     let enum-told' = c1.enum_told in
     let c2 = c1.before.before in
     let argument-at' = c2.argument-at in
     let c3 = c2.before in
-    let loop-test' = c3.loop-test in
-    let c4 = c3.before in
-    let loop' = c4.loop in
-    rw is-within'.ensures (sym (within-last _ _ _ _ (omega (arith, loop-test')) (sym enum-told'.given.1 ∙ argument-at'.ensures)) ∙ loop'.invariant)
+    let if1' = c3.if1 in
+    rw (arguments-step _ _ _ _ _ if1'.false (sym enum-told'.given.1 ∙ argument-at'.ensures)) is-within2'.ensures
 
-are-within-enum-known-first : (t : ℕ) → are-within-lts.Need-enum-known-first (are-within-uses t) (are-within-at t) are-within.Post are-within-Inv-loop are-within-μ-loop
-are-within-enum-known-first t c = search rules
-
-are-within-is-within-requires-2 : (t : ℕ) → are-within-lts.Need-is-within-requires-2 (are-within-uses t) (are-within-at t) are-within.Post are-within-Inv-loop are-within-μ-loop
-are-within-is-within-requires-2 t c κs = search rules
-
-are-within-returns-2 : (t : ℕ) → are-within-lts.Need-returns-2 (are-within-uses t) (are-within-at t) are-within.Post are-within-Inv-loop are-within-μ-loop
-are-within-returns-2 t c =
-    let if1' = c.if1 in
+are-within-returns-3 : (t : ℕ) → are-within-lts.Need-returns-3 (are-within-uses t) (are-within-at t) are-within.Post
+unfolding height_of
+are-within-returns-3 t c =
+    let are-within' = c.are-within in
     let c1 = c.before in
-    let is-within2' = c1.is-within2 in
+    let is-within3' = c1.is-within3 in
     let c2 = c1.before.before in
     let first' = c2.first in
     let c3 = c2.before.before in
     let argument-at' = c3.argument-at in
     let c4 = c3.before in
-    let loop-test' = c4.loop-test in
-    let c5 = c4.before in
-    let loop' = c5.loop in
-    sym (within-not _ _ _ _ _ _ (omega (arith, loop-test')) (sym first'.given.1 ∙ argument-at'.ensures) _ is-within2'.ensures (not-true is-within2'.result if1'.true)) ∙ loop'.invariant
-
-are-within-sub-left : (t : ℕ) → are-within-lts.Need-overflow-sub-left (are-within-uses t) (are-within-at t) are-within.Post are-within-Inv-loop are-within-μ-loop
-are-within-sub-left t c = omega (arith, c.before.before.before.before.before.before.loop-test)
-
-are-within-loop-less : (t : ℕ) → are-within-lts.Need-loop-smaller (are-within-uses t) (are-within-at t) are-within.Post are-within-Inv-loop are-within-μ-loop
-are-within-loop-less t c = omega (arith, c.before.before.before.before.before.before.loop-test)
-
-are-within-loop-again : (t : ℕ) → are-within-lts.Need-loop-preserved (are-within-uses t) (are-within-at t) are-within.Post are-within-Inv-loop are-within-μ-loop
-are-within-loop-again t c = sym (within-next _ _ _ _ _ _ (omega (arith, c.before.before.before.before.before.before.loop-test)) (sym c.before.before.before.first.given.1 ∙ c.before.before.before.before.before.argument-at.ensures) _ c.before.is-within2.ensures (not-false c.before.is-within2.result c.if1.false)) ∙ c.before.before.before.before.before.before.before.loop.invariant
-
-are-within-is-within-requires-3 : (t : ℕ) → are-within-lts.Need-is-within-requires-3 (are-within-uses t) (are-within-at t) are-within.Post are-within-Inv-loop are-within-μ-loop
-are-within-is-within-requires-3 t c κs = search rules
-
-are-within-returns-3 : (t : ℕ) → are-within-lts.Need-returns-3 (are-within-uses t) (are-within-at t) are-within.Post are-within-Inv-loop are-within-μ-loop
-are-within-returns-3 t c =
-    let is-within3' = c.is-within3 in
-    let c1 = c.before in
-    let loop-test' = c1.loop-test in
-    let c2 = c1.before in
-    let loop' = c2.loop in
-    rw is-within3'.ensures (sym (within_none _ _ _ _ (omega (arith, loop-test'))) ∙ loop'.invariant)
+    let if1' = c4.if1 in
+    rw (arguments-step _ _ _ _ _ if1'.false (sym first'.given.1 ∙ argument-at'.ensures), leb-max, is-within3'.ensures, are-within'.ensures)
 
 is-within-returns : (t : ℕ) → is-within-lts.Need-returns (is-within-uses t) (is-within-at t) is_within.Post
 unfolding tree_at height_of
@@ -270,5 +253,5 @@ is-within-returns-9 t c =
 pub +are-within-is-within-spec : {M : Type 1} → statement M
 +are-within-is-within-spec =
     close μ-are-within μ-is-within
-    (λ t. are-within-lts.spec (are-within-uses t) (are-within-at t) are-within.Post are-within-Inv-loop are-within-μ-loop (are-within-loop-holds t) (are-within-argument-at-requires t) (are-within-enum-told t) (are-within-is-within-requires t) (are-within-returns t) (are-within-enum-known-first t) (are-within-is-within-requires-2 t) (are-within-returns-2 t) (are-within-sub-left t) (are-within-loop-less t) (are-within-loop-again t) (are-within-is-within-requires-3 t) (are-within-returns-3 t))
+    (λ t. are-within-lts.spec (are-within-uses t) (are-within-at t) are-within.Post (are-within-is-within-requires t) (are-within-returns t) (are-within-argument-at-requires t) (are-within-enum-told t) (are-within-is-within-requires-2 t) (are-within-enum-known-first t) (are-within-is-within-requires-3 t) (are-within-sub-are-within t) (are-within-are-within-requires t) (are-within-returns-2 t) (are-within-returns-3 t))
     (λ t. is-within-lts.spec (is-within-uses t) (is-within-at t) is_within.Post (is-within-returns t) (is-within-sub-rest t) (is-within-node-at-requires t) (is-within-enum-told t) (is-within-enum-told-2 t) (is-within-enum-known-part t) (is-within-is-within-requires t) (is-within-enum-known-left t) (is-within-is-within-requires-2 t) (is-within-is-within-requires-3 t) (is-within-enum-known-test t) (is-within-is-within-requires-4 t) (is-within-is-within-requires-5 t) (is-within-is-within-requires-6 t) (is-within-enum-told-3 t) (is-within-enum-known-arguments t) (is-within-are-within-requires t) (is-within-enum-known-part-2 t) (is-within-is-within-requires-7 t) (is-within-returns-2 t) (is-within-returns-3 t) (is-within-returns-4 t) (is-within-returns-5 t) (is-within-returns-6 t) (is-within-returns-7 t) (is-within-returns-8 t) (is-within-returns-9 t))

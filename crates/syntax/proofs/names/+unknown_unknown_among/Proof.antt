@@ -1,4 +1,4 @@
-use Prim.Native.Nat.{ℕ, ◌<◌}
+use Prim.Native.Nat.{ℕ, ◌+◌, ◌*◌, ◌<◌}
 use borrow.Fn.Kinds.{In}
 use borrow.Fn.PlainCycle.{Measures, is, falls, and}
 use Rattle.syntax.proofs.names.unknown.Reads as unknown
@@ -15,21 +15,20 @@ use Rattle.tree.proofs.node.argument_at.Reads as argument-at-reads
 use Rattle.tree.proofs.node.node_at.Reads as node-at-reads
 use Rattle.syntax.proofs.names.+unknown_unknown_among.{statement}
 use Rattle.syntax.proofs.names.+unknown_unknown_among.Tie.{close}
-use Prim.Native.Nat.{◌+◌, ◌*◌}
-use mathlib.Core.Path.{◌≡◌, refl, sym, ◌∙◌}
-use native.Mathlib.Omega.{arith}
+use mathlib.Core.Path.{sym, ◌∙◌}
 use borrow.Author.Rules.{rules}
 use Rattle.tree.specs.Node.{tree_at}
 use Rattle.syntax.specs.Names.{unknown_in}
-use Rattle.syntax.proofs.Law.Names.{unknown-step, unknown_from, unknown-none, unknown-last, unknown-next}
+use Rattle.syntax.proofs.Law.Nodes.{arguments-end, arguments-step}
+use Rattle.syntax.proofs.Law.Names.{leftmost-append, unknown-step}
 
--- All arguments are a step more than the tree at one of them.
+-- Each level of the allowance is worth more than the most commas, and a comma more than the tree at its argument.
 
 abbrev μ-unknown : Measures 2 unknown-kinds.ps ℕ
-μ-unknown κs a = a.1.1.1.0 * 2
+μ-unknown κs a = a.1.1.1.0 * 1026
 
 abbrev μ-unknown-among : Measures 2 unknown-among-kinds.ps ℕ
-μ-unknown-among κs a = a.1.1.1.0 * 2 + 1
+μ-unknown-among κs a = a.1.1.1.0 * 1026 + a.1.1.1.1.0 + 1
 
 abbrev unknown-at : ℕ → In 2 unknown-kinds.ps
 unknown-at t = and 2 unknown-kinds.ps (is 2 unknown-kinds.ps μ-unknown t) unknown.Pre
@@ -47,13 +46,7 @@ abbrev unknown-uses : ℕ → unknown-lts.Claims
 unknown-uses t = (node-at-reads.Asked, node-at-reads.Learnt, unknown-below t, unknown.Post, earlier-reads.Asked, earlier-reads.Learnt, unknown-function-reads.Asked, unknown-function-reads.Learnt, unknown-call-reads.Asked, unknown-call-reads.Learnt, unknown-among-below t, unknown-among.Post, unknown-member-reads.Asked, unknown-member-reads.Learnt)
 
 abbrev unknown-among-uses : ℕ → unknown-among-lts.Claims
-unknown-among-uses t = (argument-at-reads.Asked, argument-at-reads.Learnt, unknown-below t, unknown.Post, earlier-reads.Asked, earlier-reads.Learnt)
-
-abbrev unknown-among-Inv-loop : unknown-among-lts.invariant-loop
-unknown-among-Inv-loop text slots at allowance commas found₀ here₀ left₀ found here left = unknown_from text allowance slots found left here ≡ unknown_from text allowance slots found₀ left₀ here₀
-
-abbrev unknown-among-μ-loop : unknown-among-lts.decreases-loop
-unknown-among-μ-loop text slots at allowance commas found₀ here₀ left₀ found here left = left
+unknown-among-uses t = (unknown-below t, unknown.Post, argument-at-reads.Asked, argument-at-reads.Learnt, unknown-among-below t, unknown-among.Post, earlier-reads.Asked, earlier-reads.Learnt)
 
 unknown-returns : (t : ℕ) → unknown-lts.Need-returns (unknown-uses t) (unknown-at t) unknown.Post
 unfolding tree_at unknown_in
@@ -243,73 +236,71 @@ unknown-returns-9 t c =
     let if1' = c5.if1 in
     rw (unknown-step _ _ _ _ _ if1'.false (sym index'.given.1 ∙ node-at'.ensures), earlier5'.ensures, unknown7'.ensures, unknown-member'.ensures)
 
-unknown-among-loop-holds : (t : ℕ) → unknown-among-lts.Need-loop-init (unknown-among-uses t) (unknown-among-at t) unknown-among.Post unknown-among-Inv-loop unknown-among-μ-loop
-unknown-among-loop-holds t c = refl
-
-unknown-among-argument-at-requires : (t : ℕ) → unknown-among-lts.Need-argument-at-requires (unknown-among-uses t) (unknown-among-at t) unknown-among.Post unknown-among-Inv-loop unknown-among-μ-loop
-unknown-among-argument-at-requires t c κs = search rules
-
-unknown-among-enum-told : (t : ℕ) → unknown-among-lts.Need-enum-told (unknown-among-uses t) (unknown-among-at t) unknown-among.Post unknown-among-Inv-loop unknown-among-μ-loop
-unknown-among-enum-told t c = search rules
-
-unknown-among-unknown-requires : (t : ℕ) → unknown-among-lts.Need-unknown-requires (unknown-among-uses t) (unknown-among-at t) unknown-among.Post unknown-among-Inv-loop unknown-among-μ-loop
+unknown-among-unknown-requires : (t : ℕ) → unknown-among-lts.Need-unknown-requires (unknown-among-uses t) (unknown-among-at t) unknown-among.Post
 unknown-among-unknown-requires t c κs = search rules
 
-unknown-among-earlier-requires : (t : ℕ) → unknown-among-lts.Need-earlier-requires (unknown-among-uses t) (unknown-among-at t) unknown-among.Post unknown-among-Inv-loop unknown-among-μ-loop
-unknown-among-earlier-requires t c κs = search rules
-
-unknown-among-returns : (t : ℕ) → unknown-among-lts.Need-returns (unknown-among-uses t) (unknown-among-at t) unknown-among.Post unknown-among-Inv-loop unknown-among-μ-loop
+unknown-among-returns : (t : ℕ) → unknown-among-lts.Need-returns (unknown-among-uses t) (unknown-among-at t) unknown-among.Post
+unfolding unknown_in
 unknown-among-returns t c =
-    let earlier' = c.earlier in
+    let unknown' = c.unknown in
     let c1 = c.before in
-    let unknown' = c1.unknown in
-    let c2 = c1.before in
-    let enum-told' = c2.enum_told in
-    let c3 = c2.before.before in
-    let argument-at' = c3.argument-at in
-    let c4 = c3.before in
-    let loop-test' = c4.loop-test in
-    let c5 = c4.before in
-    let loop' = c5.loop in
-    rw (earlier'.ensures, unknown'.ensures) (sym (unknown-last _ _ _ loop'.found loop'.left loop'.here (omega (arith, loop-test')) (sym enum-told'.given.1 ∙ argument-at'.ensures)) ∙ loop'.invariant)
+    let if1' = c1.if1 in
+    rw (arguments-end _ _ _ _ if1'.true) unknown'.ensures
 
-unknown-among-enum-known-first : (t : ℕ) → unknown-among-lts.Need-enum-known-first (unknown-among-uses t) (unknown-among-at t) unknown-among.Post unknown-among-Inv-loop unknown-among-μ-loop
-unknown-among-enum-known-first t c = search rules
+unknown-among-argument-at-requires : (t : ℕ) → unknown-among-lts.Need-argument-at-requires (unknown-among-uses t) (unknown-among-at t) unknown-among.Post
+unknown-among-argument-at-requires t c κs = search rules
 
-unknown-among-unknown-requires-2 : (t : ℕ) → unknown-among-lts.Need-unknown-requires-2 (unknown-among-uses t) (unknown-among-at t) unknown-among.Post unknown-among-Inv-loop unknown-among-μ-loop
+unknown-among-enum-told : (t : ℕ) → unknown-among-lts.Need-enum-told (unknown-among-uses t) (unknown-among-at t) unknown-among.Post
+unknown-among-enum-told t c = search rules
+
+unknown-among-unknown-requires-2 : (t : ℕ) → unknown-among-lts.Need-unknown-requires-2 (unknown-among-uses t) (unknown-among-at t) unknown-among.Post
 unknown-among-unknown-requires-2 t c κs = search rules
 
-unknown-among-earlier-requires-2 : (t : ℕ) → unknown-among-lts.Need-earlier-requires-2 (unknown-among-uses t) (unknown-among-at t) unknown-among.Post unknown-among-Inv-loop unknown-among-μ-loop
-unknown-among-earlier-requires-2 t c κs = search rules
+unknown-among-enum-known-first : (t : ℕ) → unknown-among-lts.Need-enum-known-first (unknown-among-uses t) (unknown-among-at t) unknown-among.Post
+unknown-among-enum-known-first t c = search rules
 
-unknown-among-sub-left : (t : ℕ) → unknown-among-lts.Need-overflow-sub-left (unknown-among-uses t) (unknown-among-at t) unknown-among.Post unknown-among-Inv-loop unknown-among-μ-loop
-unknown-among-sub-left t c = omega (arith, c.before.before.before.before.before.before.loop-test)
-
-unknown-among-loop-less : (t : ℕ) → unknown-among-lts.Need-loop-smaller (unknown-among-uses t) (unknown-among-at t) unknown-among.Post unknown-among-Inv-loop unknown-among-μ-loop
-unknown-among-loop-less t c = omega (arith, c.before.before.before.before.before.before.loop-test)
-
-unknown-among-loop-again : (t : ℕ) → unknown-among-lts.Need-loop-preserved (unknown-among-uses t) (unknown-among-at t) unknown-among.Post unknown-among-Inv-loop unknown-among-μ-loop
-unknown-among-loop-again t c = rw (c.earlier2.ensures, c.before.unknown2.ensures) (sym (unknown-next _ _ _ c.before.before.before.before.before.before.before.loop.found c.before.before.before.before.before.before.before.loop.left c.before.before.before.before.before.before.before.loop.here _ _ (omega (arith, c.before.before.before.before.before.before.loop-test)) (sym c.before.before.before.first.given.1 ∙ c.before.before.before.before.before.argument-at.ensures)) ∙ c.before.before.before.before.before.before.before.loop.invariant)
-
-unknown-among-unknown-requires-3 : (t : ℕ) → unknown-among-lts.Need-unknown-requires-3 (unknown-among-uses t) (unknown-among-at t) unknown-among.Post unknown-among-Inv-loop unknown-among-μ-loop
+unknown-among-unknown-requires-3 : (t : ℕ) → unknown-among-lts.Need-unknown-requires-3 (unknown-among-uses t) (unknown-among-at t) unknown-among.Post
 unknown-among-unknown-requires-3 t c κs = search rules
 
-unknown-among-earlier-requires-3 : (t : ℕ) → unknown-among-lts.Need-earlier-requires-3 (unknown-among-uses t) (unknown-among-at t) unknown-among.Post unknown-among-Inv-loop unknown-among-μ-loop
-unknown-among-earlier-requires-3 t c κs = search rules
+unknown-among-sub-unknown-among : (t : ℕ) → unknown-among-lts.Need-overflow-sub-unknown-among (unknown-among-uses t) (unknown-among-at t) unknown-among.Post
+unknown-among-sub-unknown-among t c = search rules
 
-unknown-among-returns-2 : (t : ℕ) → unknown-among-lts.Need-returns-2 (unknown-among-uses t) (unknown-among-at t) unknown-among.Post unknown-among-Inv-loop unknown-among-μ-loop
+unknown-among-unknown-among-requires : (t : ℕ) → unknown-among-lts.Need-unknown-among-requires (unknown-among-uses t) (unknown-among-at t) unknown-among.Post
+unknown-among-unknown-among-requires t c κs = search rules
+
+unknown-among-earlier-requires : (t : ℕ) → unknown-among-lts.Need-earlier-requires (unknown-among-uses t) (unknown-among-at t) unknown-among.Post
+unknown-among-earlier-requires t c κs = search rules
+
+unknown-among-returns-2 : (t : ℕ) → unknown-among-lts.Need-returns-2 (unknown-among-uses t) (unknown-among-at t) unknown-among.Post
+unfolding unknown_in
 unknown-among-returns-2 t c =
-    let earlier3' = c.earlier3 in
+    let unknown2' = c.unknown2 in
     let c1 = c.before in
-    let unknown3' = c1.unknown3 in
-    let c2 = c1.before in
-    let loop-test' = c2.loop-test in
+    let enum-told' = c1.enum_told in
+    let c2 = c1.before.before in
+    let argument-at' = c2.argument-at in
     let c3 = c2.before in
-    let loop' = c3.loop in
-    rw (earlier3'.ensures, unknown3'.ensures) (sym (unknown-none _ _ _ loop'.found loop'.left loop'.here (omega (arith, loop-test'))) ∙ loop'.invariant)
+    let if1' = c3.if1 in
+    rw (arguments-step _ _ _ _ _ if1'.false (sym enum-told'.given.1 ∙ argument-at'.ensures)) unknown2'.ensures
+
+unknown-among-returns-3 : (t : ℕ) → unknown-among-lts.Need-returns-3 (unknown-among-uses t) (unknown-among-at t) unknown-among.Post
+unfolding unknown_in
+unknown-among-returns-3 t c =
+    let earlier' = c.earlier in
+    let c1 = c.before in
+    let unknown-among' = c1.unknown-among in
+    let c2 = c1.before in
+    let unknown3' = c2.unknown3 in
+    let c3 = c2.before.before in
+    let first' = c3.first in
+    let c4 = c3.before.before in
+    let argument-at' = c4.argument-at in
+    let c5 = c4.before in
+    let if1' = c5.if1 in
+    rw (arguments-step _ _ _ _ _ if1'.false (sym first'.given.1 ∙ argument-at'.ensures), leftmost-append, earlier'.ensures, unknown3'.ensures, unknown-among'.ensures)
 
 pub +unknown-unknown-among-spec : {M : Type 1} → statement M
 +unknown-unknown-among-spec =
     close μ-unknown μ-unknown-among
     (λ t. unknown-lts.spec (unknown-uses t) (unknown-at t) unknown.Post (unknown-returns t) (unknown-sub-rest t) (unknown-node-at-requires t) (unknown-enum-told t) (unknown-enum-told-2 t) (unknown-enum-known-part t) (unknown-unknown-requires t) (unknown-enum-known-left t) (unknown-unknown-requires-2 t) (unknown-unknown-requires-3 t) (unknown-earlier-requires t) (unknown-enum-known-test t) (unknown-unknown-requires-4 t) (unknown-unknown-requires-5 t) (unknown-unknown-requires-6 t) (unknown-earlier-requires-2 t) (unknown-earlier-requires-3 t) (unknown-enum-known-function t) (unknown-unknown-function-requires t) (unknown-enum-known-function-2 t) (unknown-unknown-call-requires t) (unknown-unknown-among-requires t) (unknown-earlier-requires-4 t) (unknown-enum-known-index t) (unknown-unknown-requires-7 t) (unknown-unknown-member-requires t) (unknown-earlier-requires-5 t) (unknown-returns-2 t) (unknown-returns-3 t) (unknown-returns-4 t) (unknown-returns-5 t) (unknown-returns-6 t) (unknown-returns-7 t) (unknown-returns-8 t) (unknown-returns-9 t))
-    (λ t. unknown-among-lts.spec (unknown-among-uses t) (unknown-among-at t) unknown-among.Post unknown-among-Inv-loop unknown-among-μ-loop (unknown-among-loop-holds t) (unknown-among-argument-at-requires t) (unknown-among-enum-told t) (unknown-among-unknown-requires t) (unknown-among-earlier-requires t) (unknown-among-returns t) (unknown-among-enum-known-first t) (unknown-among-unknown-requires-2 t) (unknown-among-earlier-requires-2 t) (unknown-among-sub-left t) (unknown-among-loop-less t) (unknown-among-loop-again t) (unknown-among-unknown-requires-3 t) (unknown-among-earlier-requires-3 t) (unknown-among-returns-2 t))
+    (λ t. unknown-among-lts.spec (unknown-among-uses t) (unknown-among-at t) unknown-among.Post (unknown-among-unknown-requires t) (unknown-among-returns t) (unknown-among-argument-at-requires t) (unknown-among-enum-told t) (unknown-among-unknown-requires-2 t) (unknown-among-enum-known-first t) (unknown-among-unknown-requires-3 t) (unknown-among-sub-unknown-among t) (unknown-among-unknown-among-requires t) (unknown-among-earlier-requires t) (unknown-among-returns-2 t) (unknown-among-returns-3 t))

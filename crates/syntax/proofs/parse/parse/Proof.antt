@@ -9,7 +9,7 @@ symbol-at-requires c κs = search rules
 
 expression-requires : tie.Need-expression-requires
 expression-requires c κs =
-    (sound-as 0 c.symbol-at.ensures, c.before.before.before.before.requires)
+    sound-as 0 c.symbol-at.ensures
 
 enum-known-root : tie.Need-enum-known-root
 enum-known-root c = search rules
