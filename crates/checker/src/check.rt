@@ -19,14 +19,14 @@ use tree::node::{Argument, MOST_COMMAS, Node, argument_at, node_at};
 use value::name::{Found, function_at, pick_at};
 
 // What the checker says of an expression: its set of kinds, or the refusal of its first wrong node.
-#[derive(Drop)]
+#[derive(Clone, Copy)]
 pub enum Verdict {
     Refused(Refusal),
     Accepted(Kinds),
 }
 
 // What an expression has to end in.
-#[derive(Drop)]
+#[derive(Clone, Copy)]
 pub enum Wanted {
     Boolean,
     Vec4,
@@ -34,7 +34,7 @@ pub enum Wanted {
 }
 
 // What is known of a node's parts: the first refusal, or their sets.
-#[derive(Drop)]
+#[derive(Clone, Copy)]
 enum Checks {
     Refused(Refusal),
     Sets(Parts),

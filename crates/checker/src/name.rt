@@ -13,7 +13,7 @@ use tree::write;
 
 // Whose expression a name stands in: inside a define every name is a property; elsewhere, in the
 // style, a define hides a property of its name.
-#[derive(Drop)]
+#[derive(Clone, Copy)]
 pub enum Scope {
     Define,
     Style,

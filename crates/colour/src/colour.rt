@@ -4,7 +4,7 @@ ghost use Rattle.colour.specs.Colour.{rgb_of, rgba_of, of_bytes, with_alpha, cla
 
 use number::colour::{byte, component};
 
-#[derive(Drop)]
+#[derive(Clone, Copy)]
 pub struct Colour {
     pub red: f64,
     pub green: f64,
@@ -13,14 +13,14 @@ pub struct Colour {
 }
 
 // The colour of a feature, or none.
-#[derive(Drop)]
+#[derive(Clone, Copy)]
 pub enum Colouring {
     None,
     Of(Colour),
 }
 
 // A colour as it is shown.
-#[derive(Drop)]
+#[derive(Clone, Copy)]
 pub struct Rgba8 {
     pub red: u8,
     pub green: u8,

@@ -1,3 +1,5 @@
 // Colours and their words: page 01, "Kinds and meaning".
+#![tactic(auto)]
+
 pub mod colour;
 pub mod text;

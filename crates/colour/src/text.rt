@@ -8,7 +8,7 @@ use crate::colour::Colour;
 use lexer::bytes::{has_byte, is_digit, is_hex_digit};
 use words::table::number_in;
 
-#[derive(Drop)]
+#[derive(Clone, Copy)]
 pub enum Named {
     Known(Colour),
     Unknown,

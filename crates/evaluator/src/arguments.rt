@@ -5,7 +5,7 @@ ghost use Rattle.evaluator.specs.Inner.{places_at, with_place, with_places};
 use tree::node::{Argument, argument_at};
 
 // Up to four places: no operation takes more arguments.
-#[derive(Drop)]
+#[derive(Clone, Copy)]
 pub(crate) enum Places {
     None,
     One(usize),

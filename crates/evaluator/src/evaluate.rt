@@ -19,21 +19,21 @@ use value::apply::Outcome;
 use value::name::{function_at, pick_at};
 
 // Where the expression begins in the style's text, and how high a tree may still be.
-#[derive(Drop)]
+#[derive(Clone, Copy)]
 struct Frame {
     base: usize,
     allowance: usize,
 }
 
 // The number of a function, and where its arguments stand.
-#[derive(Drop)]
+#[derive(Clone, Copy)]
 struct Called {
     function: usize,
     arguments: usize,
 }
 
 // The number of a binary operator, and where its sides stand.
-#[derive(Drop)]
+#[derive(Clone, Copy)]
 struct Operands {
     operator: usize,
     left: usize,
@@ -41,7 +41,7 @@ struct Operands {
 }
 
 // Where the test of a conditional and its branches stand.
-#[derive(Drop)]
+#[derive(Clone, Copy)]
 struct Branches {
     test: usize,
     first: usize,

@@ -13,7 +13,7 @@ use kind::operation::{Logic, Operation};
 use value::apply::Outcome;
 use value::name::Found;
 
-#[derive(Drop)]
+#[derive(Clone, Copy)]
 pub enum Need {
     Both,
     // The right side where the left is false.

@@ -9,7 +9,7 @@ use value::apply::Outcome;
 use value::value::Value;
 
 // What a test comes to, which has to be a Boolean.
-#[derive(Drop)]
+#[derive(Clone, Copy)]
 pub(crate) enum Truth {
     Fault,
     True,

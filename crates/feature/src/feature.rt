@@ -17,7 +17,7 @@ use text::part;
 use text::part::TAB;
 
 // The refusal, or that the values are stored.
-#[derive(Drop)]
+#[derive(Clone, Copy)]
 pub enum Feature {
     Refused(Refusal),
     Read,

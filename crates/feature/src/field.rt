@@ -8,7 +8,7 @@ use kind::set::Kinds;
 use lexer::bytes::same_part;
 use value::value::{Span, Value, kind_of};
 
-#[derive(Drop)]
+#[derive(Clone, Copy)]
 pub(crate) enum Field {
     Unread,
     Read(Value),

@@ -12,7 +12,7 @@ use text::part::SPACE;
 use value::value::Value;
 
 // What a text is as a number.
-#[derive(Drop)]
+#[derive(Clone, Copy)]
 pub(crate) enum Numeral {
     Unread,
     Is(f64),

@@ -11,7 +11,7 @@ use crate::rule::rule;
 use crate::set::Kinds;
 
 // The kinds of an operation's operands. No operation takes more than four.
-#[derive(Drop)]
+#[derive(Clone, Copy)]
 pub enum Operands {
     None,
     One(Kind),
@@ -22,7 +22,7 @@ pub enum Operands {
 }
 
 // The sets of a node's parts. Of more than four it is known only whether one of them is empty.
-#[derive(Drop)]
+#[derive(Clone, Copy)]
 pub enum Parts {
     None,
     One(Kinds),
@@ -33,14 +33,14 @@ pub enum Parts {
 }
 
 // What the checker gives a node.
-#[derive(Drop)]
+#[derive(Clone, Copy)]
 pub enum Checked {
     Refused,
     Accepted(Kinds),
 }
 
 // What choices come to: whether some faults, and the kinds that the others give.
-#[derive(Drop)]
+#[derive(Clone, Copy)]
 struct Outcomes {
     fault: bool,
     kinds: Kinds,

@@ -4,7 +4,7 @@ ghost use Rattle.kind.specs.Kind.{dimension_of, eq_kind, number_of};
 ghost use Rattle.kind.specs.Inner.{numeric_of, gives_if};
 
 // Page 01's term for the dynamic type of a value.
-#[derive(Drop)]
+#[derive(Clone, Copy)]
 pub enum Kind {
     Undefined,
     Null,
@@ -17,7 +17,7 @@ pub enum Kind {
 }
 
 // What an operation gives for the kinds of its operands.
-#[derive(Drop)]
+#[derive(Clone, Copy)]
 pub enum Ruled {
     // It does not take them.
     Fault,

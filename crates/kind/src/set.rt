@@ -4,7 +4,7 @@ ghost use Rattle.kind.specs.Set.{has, single_of, union_of, within_of, empty_of};
 
 use crate::kind::Kind;
 
-#[derive(Drop)]
+#[derive(Clone, Copy)]
 pub struct Kinds {
     pub undefined: bool,
     pub null: bool,

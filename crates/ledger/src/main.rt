@@ -1,4 +1,6 @@
 // Reads a style and its features from standard input, and prints a line for each feature.
+#![tactic(auto)]
+
 mod features;
 mod input;
 mod writer;

@@ -1,6 +1,8 @@
 // Reads the cases of data/, each an input and its output, makes the output of the input and compares.
 // For each file it prints how many cases there are and how many differ, and of each difference the
 // number of the case and both outputs.
+#![tactic(auto)]
+
 mod case;
 mod made;
 

@@ -7,7 +7,7 @@ ghost use Rattle.lexer.specs.Bytes.{begins, same};
 pub use number::decimal::is_digit;
 
 // What a run is made of.
-#[derive(Drop)]
+#[derive(Clone, Copy)]
 pub enum Class {
     Space,
     // Letters, digits and underscores.
@@ -139,5 +139,5 @@ pub fn same_part(a: &[u8], start: usize, end: usize, b: &[u8], from: usize, to: 
     let begin = least(start, stop);
     let last = least(to, b.len());
     let first = least(from, last);
-    check::same(&a[begin..stop], &b[first..last])
+    a[begin..stop] == b[first..last]
 }

@@ -53,7 +53,7 @@ pub const DOT: u8 = 21;
 
 // What the longest spelling at a place is, and its length. A byte that begins none is refused by
 // itself.
-#[derive(Drop)]
+#[derive(Clone, Copy)]
 pub(crate) enum Spelled {
     Listed { number: u8, length: usize },
     Refused { length: usize },

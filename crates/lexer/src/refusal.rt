@@ -1,5 +1,5 @@
 // What is refused: page 01's number, and a place in the text.
-#[derive(Drop)]
+#[derive(Clone, Copy)]
 pub struct Refusal {
     pub number: u8,
     pub place: usize,

@@ -9,14 +9,14 @@ use crate::refusal::Refusal;
 use crate::token::{Lexeme, Token, token_at};
 
 // What page 01's table says of a text: nothing against it, or a refusal.
-#[derive(Drop)]
+#[derive(Clone, Copy)]
 pub enum Verdict {
     Fine,
     Refused(Refusal),
 }
 
 // What a token does to the round brackets that are open.
-#[derive(Drop)]
+#[derive(Clone, Copy)]
 enum Bracket {
     Opens,
     Closes,
@@ -24,7 +24,7 @@ enum Bracket {
 }
 
 // How many round brackets are open; once one was too many, its place.
-#[derive(Drop)]
+#[derive(Clone, Copy)]
 struct Brackets {
     count: usize,
     over: bool,

@@ -7,7 +7,7 @@ use crate::punctuator::{Spelled, spelled_at};
 use crate::word::word_number;
 use number::decimal;
 
-#[derive(Drop)]
+#[derive(Clone, Copy)]
 pub enum Token {
     // The whole number of its digits, of which `places` stand after the point.
     Number { digits: u64, places: u8 },
@@ -22,7 +22,7 @@ pub enum Token {
 }
 
 // What stands at a place, from `at` up to `end`.
-#[derive(Drop)]
+#[derive(Clone, Copy)]
 pub enum Lexeme {
     Found { token: Token, at: usize, end: usize },
     Bad { at: usize, end: usize },

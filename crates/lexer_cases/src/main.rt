@@ -1,5 +1,7 @@
 // Reads the cases of data/, asks the crate lexer and compares. For each file it prints how many
 // cases there are and how many differ, and of each difference what was expected and what came.
+#![tactic(auto)]
+
 mod case;
 mod classes;
 mod difference;

@@ -1,5 +1,7 @@
 // Works out the cases of data/ by the crate number and compares, bit for bit. For each file it
 // prints how many cases there are and how many differ, and each difference on a line of its own.
+#![tactic(auto)]
+
 mod literals;
 mod numbers;
 

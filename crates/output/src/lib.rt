@@ -1,3 +1,5 @@
 // Lines of the output.
+#![tactic(auto)]
+
 pub mod line;
 pub mod page;

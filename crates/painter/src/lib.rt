@@ -1,4 +1,6 @@
 // The painter: a style's head and a feature's line, and the line that is written for it.
+#![tactic(auto)]
+
 pub mod answer;
 pub mod apply;
 mod draw;

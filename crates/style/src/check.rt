@@ -8,13 +8,13 @@ use plan::layout::PLAN;
 use tree::write::clear;
 
 // A refusal, and the line that it stands at.
-#[derive(Drop)]
+#[derive(Clone, Copy)]
 pub struct LineRefusal {
     pub line: usize,
     pub refusal: Refusal,
 }
 
-#[derive(Drop)]
+#[derive(Clone, Copy)]
 pub enum Checked {
     Accepted,
     Refused(LineRefusal),

@@ -11,21 +11,21 @@ use text::part::Part;
 
 // An expression that is accepted: the part of the line that it is, the root of its tree, and its set of
 // kinds.
-#[derive(Drop)]
+#[derive(Clone, Copy)]
 pub(crate) struct Expression {
     pub text: Part,
     pub root: usize,
     pub set: u16,
 }
 
-#[derive(Drop)]
+#[derive(Clone, Copy)]
 enum Field {
     Refused(Refusal),
     Accepted(Expression),
 }
 
 // What a line adds.
-#[derive(Drop)]
+#[derive(Clone, Copy)]
 pub(crate) enum Entry {
     Refused(Refusal),
     Property {

@@ -10,7 +10,7 @@ use plan::layout::{Names, Plan};
 use syntax::judge::{Judgement, judge};
 
 // What an expression is for: a define, a test (`show` and conditions), or a colour.
-#[derive(Drop)]
+#[derive(Clone, Copy)]
 pub(crate) enum Purpose {
     Define,
     Test,
@@ -38,7 +38,7 @@ fn wanted_of(purpose: Purpose) -> Wanted
 }
 
 // The root of its tree and its set of kinds, or its refusal.
-#[derive(Drop)]
+#[derive(Clone, Copy)]
 pub(crate) enum Entered {
     Refused(Refusal),
     Accepted { root: usize, set: u16 },

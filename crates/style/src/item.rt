@@ -20,7 +20,7 @@ use text::part::{Part, TAB};
 use text::word::{Flags, Line, TypeName, flags_of, line_of, type_of};
 
 // Names and expressions are parts of the line.
-#[derive(Drop)]
+#[derive(Clone, Copy)]
 pub(crate) enum Item {
     Refused(Refusal),
     Property { name: Part, set: u16 },

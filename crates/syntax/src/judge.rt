@@ -14,7 +14,7 @@ use lexer::scan::{Verdict, scan};
 use tree::write::clear;
 
 // The root of the tree that lies in the slots, or a refusal.
-#[derive(Drop)]
+#[derive(Clone, Copy)]
 pub enum Judgement {
     Fine { root: usize },
     Refused(Refusal),

@@ -11,7 +11,7 @@ use colour::colour::Colour;
 use colour::text::Named;
 use tree::node::{Argument, MOST_COMMAS, Node, argument_at, node_at};
 
-#[derive(Drop)]
+#[derive(Clone, Copy)]
 pub enum Leftmost {
     At(usize),
     Nothing,

@@ -16,14 +16,14 @@ use lexer::punctuator::{
 use tree::write;
 
 // The place of a tree's root and the symbol behind it, or the symbol that can't stand where it does.
-#[derive(Drop)]
+#[derive(Clone, Copy)]
 pub(crate) enum Parsed {
     Tree { root: usize, next: Symbol },
     Bad(Symbol),
 }
 
 // One pick: its index and the symbol behind it.
-#[derive(Drop)]
+#[derive(Clone, Copy)]
 enum Picking {
     Pick { index: u8, next: Symbol },
     Bad(Symbol),

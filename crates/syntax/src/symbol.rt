@@ -10,7 +10,7 @@ use lexer::token::{Lexeme, Token, token_at};
 use value::name::{function_number, member_index};
 
 // A symbol's number, and where its token begins and ends. A punctuator has its own number.
-#[derive(Drop)]
+#[derive(Clone, Copy)]
 pub(crate) struct Symbol {
     pub number: u8,
     pub at: usize,

@@ -1,5 +1,7 @@
 // Reads the cases of data/, asks the crate syntax and compares. For each file it prints how many
 // cases there are and how many differ, and of each difference the line, the text and what came.
+#![tactic(auto)]
+
 mod case;
 mod judged;
 

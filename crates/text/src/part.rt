@@ -9,7 +9,7 @@ pub const TAB: u8 = 9;
 pub const SPACE: u8 = 32;
 
 // Where a part lies in its text.
-#[derive(Drop)]
+#[derive(Clone, Copy)]
 pub struct Part {
     pub start: usize,
     pub end: usize,

@@ -8,7 +8,7 @@ use lexer::bytes::{has_byte, has_word};
 use words::table::number_in;
 
 // What a line is by its first field.
-#[derive(Drop)]
+#[derive(Clone, Copy)]
 pub enum Line {
     Prop,
     Define,
@@ -20,14 +20,14 @@ pub enum Line {
 }
 
 // A property's type by its word.
-#[derive(Drop)]
+#[derive(Clone, Copy)]
 pub enum TypeName {
     Known(Kind),
     Unknown,
 }
 
 // Whether a property may be absent and may be null, by the word of its flags.
-#[derive(Drop)]
+#[derive(Clone, Copy)]
 pub enum Flags {
     Known { absent: bool, null: bool },
     Unknown,

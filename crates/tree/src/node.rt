@@ -8,7 +8,7 @@ use crate::slots::{
 };
 
 // A node, with the places of its parts. Operators have their punctuators' numbers.
-#[derive(Drop)]
+#[derive(Clone, Copy)]
 pub enum Node {
     // By the number of its form.
     Literal(usize),
@@ -45,7 +45,7 @@ pub enum Node {
 
 // What stands where a call's arguments do: the last of them, or a comma with one before it and the
 // others after it.
-#[derive(Drop)]
+#[derive(Clone, Copy)]
 pub enum Argument {
     Last,
     Next { first: usize, rest: usize },

@@ -12,7 +12,7 @@ use kind::operation::Operation;
 use kind::rule::{rule0, rule1, rule2, rule3, rule4};
 
 // What is worked out: a value, or a fault, which no checked style meets.
-#[derive(Drop)]
+#[derive(Clone, Copy)]
 pub enum Outcome {
     Fault,
     Worked(Value),

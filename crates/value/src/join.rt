@@ -7,7 +7,7 @@ ghost use Rattle.value.specs.declared.join.Joined.TheVariants as join;
 
 use crate::value::{Value, component};
 
-#[derive(Drop)]
+#[derive(Clone, Copy)]
 pub(crate) struct Four {
     pub(crate) x: f64,
     pub(crate) y: f64,
@@ -16,7 +16,7 @@ pub(crate) struct Four {
 }
 
 // Up to four numbers: no vector takes more.
-#[derive(Drop)]
+#[derive(Clone, Copy)]
 enum Joined {
     None,
     One(f64),

@@ -1,4 +1,6 @@
 // Values and what operators, functions and picks make of them: page 01, "Kinds and meaning".
+#![tactic(auto)]
+
 pub mod apply;
 pub mod equality;
 mod join;

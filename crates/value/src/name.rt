@@ -6,7 +6,7 @@ ghost use Rattle.value.specs.Name.{function_names, function_at, member_index, pi
 use kind::operation::{Binary, Constructor, Member, Operation, Product, Ternary, Test, Unary};
 use words::table::number_in;
 
-#[derive(Drop)]
+#[derive(Clone, Copy)]
 pub enum Found {
     Known(Operation),
     Unknown,

@@ -7,14 +7,14 @@ use colour::colour::Colour;
 use kind::kind::Kind;
 
 // A string's place: in the style's text, if it is a literal, and else in the feature's.
-#[derive(Drop)]
+#[derive(Clone, Copy)]
 pub struct Span {
     pub literal: bool,
     pub start: usize,
     pub end: usize,
 }
 
-#[derive(Drop)]
+#[derive(Clone, Copy)]
 pub enum Value {
     Undefined,
     Null,

@@ -1,6 +1,8 @@
 // Reads the cases of data/, asks the crates kind, value and colour and compares, numbers bit for
 // bit. For each file it prints how many cases there are and how many differ, and of each difference
 // the line and what came.
+#![tactic(auto)]
+
 mod case;
 mod color;
 mod colours;

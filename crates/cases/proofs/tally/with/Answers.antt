@@ -1,0 +1,5 @@
+use Rattle.std.proofs.Common.{rules}
+use Rattle.cases.proofs.tally.with.Goals as goal
+
+pub returns : goal.returns
+returns c = rw (c.sum.ensures, c.one.ensures)
