@@ -1,0 +1,5 @@
+use Rattle.std.proofs.Common.{rules}
+use Rattle.kind.proofs.kind.is.Goals as goal
+
+pub returns : goal.returns
+returns c = rw (c.number-2.ensures, c.number.ensures)
