@@ -1,4 +1,3 @@
-use Rattle.std.proofs.Common.{rules}
 use Rattle.kind.specs.Inner.{joined}
 use Rattle.kind.proofs.choice.join.Goals as goal
 

@@ -1,4 +1,3 @@
-use Rattle.std.proofs.Common.{rules}
 use Rattle.kind.specs.Set.{set_of}
 use Rattle.kind.specs.Inner.{no_outcomes, joined_eight}
 use Rattle.kind.proofs.choice.join_eight.Goals as goal

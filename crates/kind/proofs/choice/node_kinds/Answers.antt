@@ -1,7 +1,6 @@
 use mathlib.Core.Path.{◌≡◌, sym, ◌∙◌, ap}
 use mathlib.Core.Bool.{Bool, true, false, cond}
 use mathlib.Core.List.{List}
-use Rattle.std.proofs.Common.{rules}
 use Rattle.kind.specs.Rule.{rule_of}
 use Rattle.kind.specs.Choice.{sets_in, node_kinds}
 use Rattle.kind.specs.Inner.{outcomes_of}

@@ -1,4 +1,3 @@
-use Rattle.std.proofs.Common.{rules}
 use Rattle.kind.specs.Set.{set_of}
 use Rattle.kind.proofs.choice.outcome.Goals as goal
 

@@ -1,4 +1,3 @@
-use Rattle.std.proofs.Common.{rules}
 use Rattle.kind.proofs.kind.is.Goals as goal
 
 pub returns : goal.returns

@@ -1,5 +1,4 @@
 use mathlib.Core.Path.{◌∙◌}
-use Rattle.std.proofs.Common.{rules}
 use Rattle.kind.specs.declared.operation.Binary.TheVariants.{Add, Subtract, Multiply, Divide, Remainder, Min, Max}
 use Rattle.kind.proofs.Law.Rules.{pair-law}
 use Rattle.kind.proofs.rule.binary_rule.Goals as goal

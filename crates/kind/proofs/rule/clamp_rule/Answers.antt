@@ -1,4 +1,3 @@
-use Rattle.std.proofs.Common.{rules}
 use Rattle.kind.proofs.Law.Rules.{clamp-law}
 use Rattle.kind.proofs.rule.clamp_rule.Goals as goal
 

@@ -1,4 +1,3 @@
-use Rattle.std.proofs.Common.{rules}
 use Rattle.kind.proofs.rule.constructor_rule0.Goals as goal
 
 pub returns-in-Color : goal.returns-in-Color

@@ -1,5 +1,4 @@
 use mathlib.Core.Path.{◌∙◌}
-use Rattle.std.proofs.Common.{rules}
 use Rattle.kind.proofs.Law.Rules.{one_signature, vec2-law1, vec3-law1, vec4-law1}
 use Rattle.kind.proofs.rule.constructor_rule1.Goals as goal
 

@@ -1,5 +1,4 @@
 use mathlib.Core.Path.{◌∙◌}
-use Rattle.std.proofs.Common.{rules}
 use Rattle.kind.proofs.Law.Rules.{one_signature, vec2-law2, vec3-law2, vec4-law2}
 use Rattle.kind.proofs.rule.constructor_rule2.Goals as goal
 

@@ -1,4 +1,3 @@
-use Rattle.std.proofs.Common.{rules}
 use Rattle.kind.proofs.rule.constructor_rule3.Goals as goal
 
 pub returns-in-Vec3 : goal.returns-in-Vec3

@@ -1,4 +1,3 @@
-use Rattle.std.proofs.Common.{rules}
 use Rattle.kind.proofs.rule.constructor_rule4.Goals as goal
 
 pub returns-in-Vec2 : goal.returns-in-Vec2

@@ -1,4 +1,3 @@
-use Rattle.std.proofs.Common.{rules}
 use Rattle.kind.proofs.Law.Rules.{dot-law}
 use Rattle.kind.proofs.rule.dot_rule.Goals as goal
 

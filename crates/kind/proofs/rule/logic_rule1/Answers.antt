@@ -1,4 +1,3 @@
-use Rattle.std.proofs.Common.{rules}
 use Rattle.kind.proofs.Law.Rules.{one_signature}
 use Rattle.kind.proofs.rule.logic_rule1.Goals as goal
 

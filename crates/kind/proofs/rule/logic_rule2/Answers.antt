@@ -1,4 +1,3 @@
-use Rattle.std.proofs.Common.{rules}
 use Rattle.kind.proofs.rule.logic_rule2.Goals as goal
 
 pub returns-in-And : goal.returns-in-And

@@ -1,4 +1,3 @@
-use Rattle.std.proofs.Common.{rules}
 use Rattle.kind.proofs.Law.Rules.{mix-law}
 use Rattle.kind.proofs.rule.mix_rule.Goals as goal
 

@@ -1,4 +1,3 @@
-use Rattle.std.proofs.Common.{rules}
 use Rattle.kind.specs.Inner.{pair}
 use Rattle.kind.proofs.rule.pair_rule.Goals as goal
 

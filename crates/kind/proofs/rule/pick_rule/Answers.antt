@@ -1,4 +1,3 @@
-use Rattle.std.proofs.Common.{rules}
 use Rattle.kind.proofs.Law.Rules.{pick-law}
 use Rattle.kind.proofs.rule.pick_rule.Goals as goal
 

@@ -1,5 +1,4 @@
 use mathlib.Core.Path.{sym}
-use Rattle.std.proofs.Common.{rules}
 use Rattle.kind.proofs.Law.Signatures.{over-four}
 use Rattle.kind.proofs.rule.rule.Goals as goal
 

@@ -1,5 +1,4 @@
 use mathlib.Core.Path.{refl}
-use Rattle.std.proofs.Common.{rules}
 use Rattle.kind.specs.Rule.{rule_of}
 use Rattle.kind.proofs.Law.Signatures.{untaken}
 use Rattle.kind.proofs.rule.rule0.Goals as goal

@@ -1,5 +1,4 @@
 use mathlib.Core.Path.{refl}
-use Rattle.std.proofs.Common.{rules}
 use Rattle.kind.specs.Rule.{rule_of}
 use Rattle.kind.proofs.Law.Rules.{one-law, one_signature}
 use Rattle.kind.proofs.Law.Signatures.{untaken}

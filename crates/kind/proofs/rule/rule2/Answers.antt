@@ -1,5 +1,4 @@
 use mathlib.Core.Path.{refl}
-use Rattle.std.proofs.Common.{rules}
 use Rattle.kind.specs.Rule.{rule_of}
 use Rattle.kind.proofs.Law.Rules.{equality-law}
 use Rattle.kind.proofs.Law.Signatures.{untaken}

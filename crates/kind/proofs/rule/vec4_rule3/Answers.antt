@@ -1,4 +1,3 @@
-use Rattle.std.proofs.Common.{rules}
 use Rattle.kind.proofs.Law.Rules.{vec4-law3}
 use Rattle.kind.proofs.rule.vec4_rule3.Goals as goal
 

@@ -1,4 +1,3 @@
-use Rattle.std.proofs.Common.{rules}
 use Rattle.kind.specs.Inner.{vector1}
 use Rattle.kind.proofs.rule.vector_rule1.Goals as goal
 

@@ -1,4 +1,3 @@
-use Rattle.std.proofs.Common.{rules}
 use Rattle.kind.specs.Inner.{vector2}
 use Rattle.kind.proofs.rule.vector_rule2.Goals as goal
 

@@ -1,4 +1,3 @@
-use Rattle.std.proofs.Common.{rules}
 use Rattle.kind.specs.Set.{set_of, single_of}
 use Rattle.kind.proofs.set.Kinds.single.Goals as goal
 
