@@ -1,22 +1,21 @@
--- The match goes from the lowest number up, and `level_by` from the level that binds most, so each return answers the tests of `level_by` up to its own.
 use native.Mathlib.Omega.{arith}
 use borrow.Author.Tests.{le-leb, lt-leb, ne_eqb}
 use Rattle.syntax.specs.Symbol.{precedence_of}
 use Rattle.syntax.proofs.Law.Operators.{precedence-is}
-use Rattle.syntax.proofs.symbol.precedence.Statement.{statement}
-use Rattle.syntax.proofs.symbol.precedence.Tie as tie
+use Rattle.syntax.proofs.symbol.precedence.Goals as goal
 
-returns : tie.Need-returns
+-- The match goes from the lowest number up, and `level_by` from the level that binds most, so each return answers the tests of `level_by` up to its own.
+pub returns-in-3 : goal.returns-in-3
 unfolding precedence_of
-returns c = rw c.match.keys1
+returns-in-3 c = rw c.in-3.is
 
-returns-2 : tie.Need-returns-2
+pub returns-in-2 : goal.returns-in-2
 unfolding precedence_of
-returns-2 c = rw c.match.keys2
+returns-in-2 c = rw c.in-2.is
 
-returns-3 : tie.Need-returns-3
-returns-3 c =
-    let n = c.before.before.before.args.n in
+pub returns-in-4 : goal.returns-in-4
+returns-in-4 c =
+    let n = c.args.n in
     rw (
       precedence-is n,
       lt-leb 12 n (omega arith),
@@ -26,9 +25,9 @@ returns-3 c =
       le-leb n 5 (omega arith),
     )
 
-returns-4 : tie.Need-returns-4
-returns-4 c =
-    let n = c.before.before.before.before.args.n in
+pub returns-in-6-to-9 : goal.returns-in-6-to-9
+returns-in-6-to-9 c =
+    let n = c.args.n in
     rw (
       precedence-is n,
       lt-leb 12 n (omega arith),
@@ -37,19 +36,19 @@ returns-4 c =
       le-leb n 9 (omega arith),
     )
 
-returns-5 : tie.Need-returns-5
-returns-5 c =
-    let n = c.before.before.before.before.before.args.n in
+pub returns-in-10 : goal.returns-in-10
+returns-in-10 c =
+    let n = c.args.n in
     rw (precedence-is n, lt-leb 12 n (omega arith), le-leb 10 n (omega arith), le-leb n 11 (omega arith))
 
-returns-6 : tie.Need-returns-6
-returns-6 c =
-    let n = c.before.before.before.before.before.before.args.n in
+pub returns-in-12-to-14 : goal.returns-in-12-to-14
+returns-in-12-to-14 c =
+    let n = c.args.n in
     rw (precedence-is n, le-leb 12 n (omega arith), le-leb n 14 (omega arith))
 
-returns-7 : tie.Need-returns-7
-returns-7 c =
-    let n = c.before.before.args.n in
+pub returns-in_default : goal.returns-in_default
+returns-in_default c =
+    let n = c.args.n in
     rw (
       precedence-is n,
       lt-leb 12 n (omega arith),
@@ -60,9 +59,9 @@ returns-7 c =
       ne_eqb n 2 (λ e. omega arith),
     )
 
-returns-8 : tie.Need-returns-8
-returns-8 c =
-    let n = c.before.before.before.before.before.before.args.n in
+pub returns-in_default-2 : goal.returns-in_default-2
+returns-in_default-2 c =
+    let n = c.args.n in
     rw (
       precedence-is n,
       le-leb 12 n (omega arith),
@@ -76,8 +75,3 @@ returns-8 c =
       ne_eqb n 3 (λ e. omega arith),
       ne_eqb n 2 (λ e. omega arith),
     )
-
-pub precedence-spec : {M : Type 1} → statement M
-precedence-spec =
-    tie.close
-    (tie.spec returns returns-2 returns-3 returns-4 returns-5 returns-6 returns-7 returns-8)
