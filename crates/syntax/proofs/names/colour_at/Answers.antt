@@ -10,6 +10,10 @@ pub overflow_add-start : goal.overflow_add-start
 overflow_add-start c =
     omega (arith, rw (← c.symbol_at-x.ensures) at (sound-at c.args.text.now c.args.at))
 
+pub slice_bounds-from_text-end : goal.slice_bounds-from_text-end
+slice_bounds-from_text-end c =
+    omega (arith, rw (← c.symbol_at-x.ensures) at (sound-at c.args.text.now c.args.at))
+
 pub returns-then-start-end : goal.returns-then-start-end
 unfolding meaning
 returns-then-start-end c =

@@ -16,4 +16,4 @@ returns-in-Literal c =
 
 pub returns-in_default : goal.returns-in_default
 returns-in_default c =
-    rw (tree-step _ _ _ _ c.if-allowance-eq0.false c.node_at.ensures, no-literal _ _ _ _ _ _ c.in_default.keys2)
+    rw (tree-step _ _ _ _ c.if-allowance-eq0.false c.node_at.ensures, no-literal _ _ _ _ _ _ c.in_default.not-Literal)

@@ -9,7 +9,7 @@ returns-then-not-is_index c =
     rw (
       ← c.after-y.ensures.is,
       ← c.is_index.ensures,
-      not-true c.is_index.result c.if-not-is_index.true,
+      c.if-not-is_index.true,
     )
 
 pub returns-then-z-ne-CLOSE_SQUARE : goal.returns-then-z-ne-CLOSE_SQUARE
@@ -19,7 +19,7 @@ returns-then-z-ne-CLOSE_SQUARE c =
       ← c.after-y.ensures.is,
       ← c.after-z.ensures.is,
       ← c.is_index.ensures,
-      not-false c.is_index.result c.if-not-is_index.false,
+      c.if-not-is_index.false,
       ne_eqb _ 19 c.if-z-ne-CLOSE_SQUARE.true,
     )
 
@@ -30,7 +30,7 @@ returns c =
       ← c.after-y.ensures.is,
       ← c.after-z.ensures.is,
       ← c.is_index.ensures,
-      not-false c.is_index.result c.if-not-is_index.false,
+      c.if-not-is_index.false,
       eq-eqb _ 19 c.if-z-ne-CLOSE_SQUARE.false,
       c.index.ensures,
       c.after.ensures.is,

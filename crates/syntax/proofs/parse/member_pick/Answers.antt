@@ -9,7 +9,7 @@ returns-then-not-is_word c =
     rw (
       ← c.after-y.ensures.is,
       ← c.is_word.ensures,
-      not-true c.is_word.result c.if-not-is_word.true,
+      c.if-not-is_word.true,
     )
 
 pub returns : goal.returns
@@ -18,7 +18,7 @@ returns c =
     rw (
       ← c.after-y.ensures.is,
       ← c.is_word.ensures,
-      not-false c.is_word.result c.if-not-is_word.false,
+      c.if-not-is_word.false,
       c.member.ensures,
       c.after.ensures.is,
     )
