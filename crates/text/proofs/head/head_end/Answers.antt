@@ -1,18 +1,8 @@
-use Rattle.std.proofs.Common.{rules}
-use Prim.Native.Nat.{◌-◌, ◌≤◌}
-use native.Mathlib.Omega.{arith}
+use Prim.Native.Nat.{◌≤◌}
 use lib.ListN.{length}
 use Rattle.text.proofs.Law.Parts.{end-within}
-use Rattle.text.proofs.Law.Heads.{On, on-first, at-end, at-feature, at_last, on-next}
+use Rattle.text.proofs.Law.Heads.{at-end, at-feature, at_last, on-next}
 use Rattle.text.proofs.head.head_end.Goals as goal
-
-pub loop-at-init : goal.loop-at-init
-loop-at-init c =
-    on-first _
-
-pub slice_bounds-is_feature-count : goal.slice_bounds-is_feature-count
-slice_bounds-is_feature-count c =
-    omega (arith, c.end-end.ensures)
 
 pub slice_bounds-is_feature-end : goal.slice_bounds-is_feature-end
 slice_bounds-is_feature-end c =
@@ -32,10 +22,6 @@ returns-then-input-end c =
       is = at_last _ _ c.loop-at.invariant _ c.loop-at-test.true c.end-end.ensures _ c.is_feature.ensures c.if-is_feature.false inside c.if-input-end.true;
       inside = inside;
     }
-
-pub loop-at-smaller : goal.loop-at-smaller
-loop-at-smaller c =
-    omega (arith, c.end-end.ensures)
 
 pub loop-at-preserved : goal.loop-at-preserved
 loop-at-preserved c =

@@ -1,9 +1,6 @@
-use Rattle.std.proofs.Common.{rules}
 use Prim.Native.Nat.{◌-◌}
-use native.Mathlib.Omega.{arith}
 use lib.ListN.{length}
-use Rattle.text.proofs.Law.Parts.{end-within}
-use Rattle.text.proofs.Law.Heads.{On, on-first, at-end, at-feature, at_last, on-next}
+use Rattle.text.proofs.Law.Heads.{On}
 use Rattle.text.proofs.head.head_end.Given as goal
 
 -- `head_end` goes from line to line. The invariant: the head ends where that of the lines from here on does.

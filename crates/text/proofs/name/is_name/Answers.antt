@@ -1,4 +1,3 @@
-use Rattle.std.proofs.Common.{rules}
 use native.Mathlib.Nat.{zero-add}
 use Rattle.text.specs.Name.{is_name}
 use Rattle.text.proofs.name.is_name.Goals as goal

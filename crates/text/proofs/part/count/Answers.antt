@@ -1,10 +1,7 @@
-use Rattle.std.proofs.Common.{rules}
-use mathlib.Core.Path.{◌≡◌, refl}
-use Prim.Native.Nat.{ℕ, ◌≤◌, ◌+◌, ◌-◌}
+use mathlib.Core.Path.{refl}
+use Prim.Native.Nat.{◌+◌}
 use native.Mathlib.Omega.{arith}
-use lib.ListN.{length}
-use Rattle.text.specs.Parts.{end_from}
-use Rattle.text.proofs.Law.Parts.{From, from_first, next-from, counted}
+use Rattle.text.proofs.Law.Parts.{from_first, next-from, counted}
 use Rattle.text.proofs.part.count.Goals as goal
 
 pub loop-at-init : goal.loop-at-init

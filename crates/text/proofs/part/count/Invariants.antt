@@ -1,10 +1,8 @@
-use Rattle.std.proofs.Common.{rules}
-use mathlib.Core.Path.{◌≡◌, refl}
+use mathlib.Core.Path.{◌≡◌}
 use Prim.Native.Nat.{ℕ, ◌≤◌, ◌+◌, ◌-◌}
-use native.Mathlib.Omega.{arith}
 use lib.ListN.{length}
 use Rattle.text.specs.Parts.{end_from}
-use Rattle.text.proofs.Law.Parts.{From, from_first, next-from, counted}
+use Rattle.text.proofs.Law.Parts.{From}
 use Rattle.text.proofs.part.count.Given as goal
 
 -- `count` goes from part to part. The invariant: where the part that ends here begins.

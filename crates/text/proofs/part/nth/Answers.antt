@@ -1,9 +1,8 @@
-use Rattle.std.proofs.Common.{rules}
-use mathlib.Core.Path.{◌≡◌, subst}
+use mathlib.Core.Path.{subst}
 use Prim.Native.Nat.{ℕ, ◌≤◌, ◌+◌}
 use native.Mathlib.Omega.{arith}
 use lib.ListN.{length}
-use Rattle.text.proofs.Law.Parts.{From, from_first, next-from, found, part_none, end-within}
+use Rattle.text.proofs.Law.Parts.{from_first, next-from, found, part_none, end-within}
 use Rattle.text.proofs.part.nth.Goals as goal
 
 pub loop-left-init : goal.loop-left-init

@@ -1,9 +1,6 @@
-use Rattle.std.proofs.Common.{rules}
-use mathlib.Core.Path.{◌≡◌, subst}
-use Prim.Native.Nat.{ℕ, ◌≤◌, ◌+◌}
-use native.Mathlib.Omega.{arith}
-use lib.ListN.{length}
-use Rattle.text.proofs.Law.Parts.{From, from_first, next-from, found, part_none, end-within}
+use mathlib.Core.Path.{◌≡◌}
+use Prim.Native.Nat.{ℕ, ◌+◌}
+use Rattle.text.proofs.Law.Parts.{From}
 use Rattle.text.proofs.part.nth.Given as goal
 
 -- `nth` goes from part to part. The invariant: how many are passed, and that the next begins here.

@@ -1,16 +1,6 @@
-use Rattle.std.proofs.Common.{rules}
 use mathlib.Core.Path.{◌∙◌}
-use mathlib.Core.Bool.{false}
-use mathlib.Core.List.{[], ◌∷◌, map}
-use native.Mathlib.Omega.{arith}
-use Rattle.lexer.specs.Bytes.{ascii}
-use Rattle.words.specs.Table.{folded}
-use Rattle.text.proofs.Law.Words.{few, dashed, no-flags, letter-flags}
+use Rattle.text.proofs.Law.Words.{dashed, no-flags, letter-flags}
 use Rattle.text.proofs.word.flags_number.Goals as goal
-
-pub overflow_add-result : goal.overflow_add-result
-overflow_add-result c =
-    omega (arith, few c.number_in.result (ascii "a" ∷ ascii "n" ∷ ascii "an" ∷ []) (map (folded false) c.args.word.now) c.number_in.ensures)
 
 pub returns-then-word-has_byte : goal.returns-then-word-has_byte
 returns-then-word-has_byte c =

@@ -1,4 +1,3 @@
-use Rattle.std.proofs.Common.{rules}
 use mathlib.Core.Path.{◌∙◌, ap}
 use Rattle.text.specs.Word.{flags_numbered, flags_of}
 use Rattle.text.proofs.word.flags_of.Goals as goal

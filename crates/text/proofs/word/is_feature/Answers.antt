@@ -1,4 +1,3 @@
-use Rattle.std.proofs.Common.{rules}
 use Rattle.text.specs.Word.{feature_word}
 use Rattle.text.proofs.Law.Words.{by_bytes}
 use Rattle.text.proofs.word.is_feature.Goals as goal

@@ -1,4 +1,3 @@
-use Rattle.std.proofs.Common.{rules}
 use mathlib.Core.Path.{sym, ◌∙◌, ap}
 use Rattle.text.specs.Word.{line_words, line_numbered, line_of}
 use Rattle.text.proofs.Law.Words.{numbered}

@@ -1,4 +1,3 @@
-use Rattle.std.proofs.Common.{rules}
 use mathlib.Core.Path.{◌∙◌, ap}
 use Rattle.text.specs.Word.{type_words, type_numbered, type_of}
 use Rattle.text.proofs.Law.Words.{numbered}
