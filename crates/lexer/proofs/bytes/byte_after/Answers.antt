@@ -1,5 +1,4 @@
 use mathlib.Core.Path.{sym}
-use Rattle.std.proofs.Common.{rules}
 use lib.ListN.{drop, length-drop, get_or-eq_default}
 use lib.Seq.{get_or-drop}
 use Rattle.lexer.proofs.bytes.byte_after.Goals as goal

@@ -1,4 +1,3 @@
-use Rattle.std.proofs.Common.{rules}
 use Rattle.lexer.proofs.Law.Runs.{byte-here, byte_past}
 use Rattle.lexer.proofs.bytes.has_byte.Goals as goal
 

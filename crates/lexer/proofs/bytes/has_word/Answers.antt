@@ -1,10 +1,5 @@
-use mathlib.Core.Path.{◌≡◌, refl, sym, ◌∙◌}
-use Prim.Native.Nat.{◌-◌}
+use mathlib.Core.Path.{refl, sym, ◌∙◌}
 use native.Mathlib.Omega.{arith}
-use Rattle.std.proofs.Common.{rules}
-use borrow.Author.Tests.{not-true, not-false}
-use lib.ListN.{length, drop}
-use Rattle.lexer.specs.Bytes.{begins}
 use Rattle.lexer.proofs.Law.Runs.{byte-within, word_more, word-stop, word_end}
 use Rattle.lexer.proofs.bytes.has_word.Goals as goal
 

@@ -1,11 +1,7 @@
-use mathlib.Core.Path.{◌≡◌, refl, sym, ◌∙◌}
+use mathlib.Core.Path.{◌≡◌}
 use Prim.Native.Nat.{◌-◌}
-use native.Mathlib.Omega.{arith}
-use Rattle.std.proofs.Common.{rules}
-use borrow.Author.Tests.{not-true, not-false}
 use lib.ListN.{length, drop}
 use Rattle.lexer.specs.Bytes.{begins}
-use Rattle.lexer.proofs.Law.Runs.{byte-within, word_more, word-stop, word_end}
 use Rattle.lexer.proofs.bytes.has_word.Given as goal
 
 -- `has_word` compares byte by byte. The invariant: the rest of the word stands at the present place exactly if the whole stands at the first.

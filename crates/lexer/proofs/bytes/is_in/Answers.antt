@@ -1,4 +1,3 @@
-use Rattle.std.proofs.Common.{rules}
 use Rattle.lexer.proofs.bytes.is_in.Goals as goal
 
 pub returns-in-Space : goal.returns-in-Space

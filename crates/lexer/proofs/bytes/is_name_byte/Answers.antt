@@ -1,4 +1,3 @@
-use Rattle.std.proofs.Common.{rules}
 use Rattle.lexer.proofs.bytes.is_name_byte.Goals as goal
 
 pub returns : goal.returns

@@ -1,10 +1,5 @@
-use mathlib.Core.Path.{◌≡◌, refl, sym, ◌∙◌}
-use Prim.Native.Nat.{◌+◌, ◌-◌}
+use mathlib.Core.Path.{refl, sym, ◌∙◌}
 use native.Mathlib.Omega.{arith}
-use Rattle.std.proofs.Common.{rules}
-use borrow.Author.Tests.{not-true, not-false}
-use lib.ListN.{length, drop}
-use Rattle.lexer.specs.Bytes.{in_class, run}
 use Rattle.lexer.proofs.Law.Runs.{run_more, run-stop, run_past}
 use Rattle.lexer.proofs.bytes.run_end.Goals as goal
 

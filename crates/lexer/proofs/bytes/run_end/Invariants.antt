@@ -1,11 +1,7 @@
-use mathlib.Core.Path.{◌≡◌, refl, sym, ◌∙◌}
+use mathlib.Core.Path.{◌≡◌}
 use Prim.Native.Nat.{◌+◌, ◌-◌}
-use native.Mathlib.Omega.{arith}
-use Rattle.std.proofs.Common.{rules}
-use borrow.Author.Tests.{not-true, not-false}
 use lib.ListN.{length, drop}
 use Rattle.lexer.specs.Bytes.{in_class, run}
-use Rattle.lexer.proofs.Law.Runs.{run_more, run-stop, run_past}
 use Rattle.lexer.proofs.bytes.run_end.Given as goal
 
 -- `run_end` goes on while the class has the byte. The invariant: a run from the present place ends where the run from the first place does.

@@ -1,4 +1,3 @@
-use Rattle.std.proofs.Common.{rules}
 use Rattle.lexer.proofs.Law.Punctuators.{by_three}
 use Rattle.lexer.proofs.punctuator.spelled_at.Goals as goal
 

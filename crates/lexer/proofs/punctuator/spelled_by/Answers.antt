@@ -1,6 +1,5 @@
 use mathlib.Core.Path.{refl, ◌∙◌}
 use mathlib.Core.List.{[], ◌∷◌}
-use Rattle.std.proofs.Common.{rules}
 use Rattle.lexer.specs.Punctuator.{spelled_by}
 use Rattle.lexer.specs.declared.punctuator.Spelled.TheVariants.{Listed, Refused}
 use Rattle.lexer.proofs.Law.Punctuators.{unlisted, by-second, by-equals, by-not}

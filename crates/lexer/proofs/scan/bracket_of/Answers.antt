@@ -1,4 +1,3 @@
-use Rattle.std.proofs.Common.{rules}
 use Rattle.lexer.proofs.scan.bracket_of.Goals as goal
 
 pub returns-in-Punctuator : goal.returns-in-Punctuator

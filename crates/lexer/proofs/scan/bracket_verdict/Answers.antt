@@ -1,4 +1,3 @@
-use Rattle.std.proofs.Common.{rules}
 use Rattle.lexer.proofs.scan.bracket_verdict.Goals as goal
 
 -- `bracket_verdict` is the definition.

@@ -1,5 +1,4 @@
 use mathlib.Core.Path.{sym, ◌∙◌}
-use Rattle.std.proofs.Common.{rules}
 use Rattle.lexer.proofs.scan.next_brackets.Goals as goal
 
 pub returns-in-Opens : goal.returns-in-Opens

@@ -1,4 +1,3 @@
-use Rattle.std.proofs.Common.{rules}
 use borrow.Author.Tests.{lt-ltb, le-ltb}
 use Rattle.lexer.specs.Scan.{most_open}
 use Rattle.lexer.proofs.scan.opened.Goals as goal

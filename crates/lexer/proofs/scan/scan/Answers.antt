@@ -1,11 +1,7 @@
-use mathlib.Core.Path.{◌≡◌, ◌∙◌, ap}
-use Prim.Native.Nat.{◌-◌}
+use mathlib.Core.Path.{◌∙◌, ap}
 use native.Mathlib.Omega.{arith}
-use Rattle.std.proofs.Common.{rules}
-use lib.ListN.{length}
 use Rattle.lexer.specs.declared.scan.Brackets.{Brackets}
 use Rattle.lexer.specs.Tokens.{tokens_from}
-use Rattle.lexer.specs.Scan.{scan_of}
 use Rattle.lexer.proofs.Law.Scanning.{rest_verdict, scan-found, scan-bad, scan-end, scan-all, scan-on}
 use Rattle.lexer.proofs.scan.scan.Goals as goal
 

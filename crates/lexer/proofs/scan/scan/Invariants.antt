@@ -1,12 +1,9 @@
-use mathlib.Core.Path.{◌≡◌, ◌∙◌, ap}
+use mathlib.Core.Path.{◌≡◌}
 use Prim.Native.Nat.{◌-◌}
-use native.Mathlib.Omega.{arith}
-use Rattle.std.proofs.Common.{rules}
 use lib.ListN.{length}
-use Rattle.lexer.specs.declared.scan.Brackets.{Brackets}
 use Rattle.lexer.specs.Tokens.{tokens_from}
 use Rattle.lexer.specs.Scan.{scan_of}
-use Rattle.lexer.proofs.Law.Scanning.{rest_verdict, scan-found, scan-bad, scan-end, scan-all, scan-on}
+use Rattle.lexer.proofs.Law.Scanning.{rest_verdict}
 use Rattle.lexer.proofs.scan.scan.Given as goal
 
 -- `scan` goes from token to token. The invariant: the verdict on the rest, after the brackets seen so far, is that on the whole text.

@@ -1,5 +1,4 @@
 use mathlib.Core.Path.{sym, ◌∙◌}
-use Rattle.std.proofs.Common.{rules}
 use Rattle.lexer.proofs.Law.Forms.{other-string, other-variable, other_word, other-punctuator}
 use Rattle.lexer.proofs.token.other_at.Goals as goal
 

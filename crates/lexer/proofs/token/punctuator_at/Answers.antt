@@ -1,6 +1,5 @@
 use mathlib.Core.Path.{sym, ◌∙◌}
 use native.Mathlib.Omega.{arith}
-use Rattle.std.proofs.Common.{rules}
 use Rattle.lexer.specs.declared.punctuator.Spelled.TheVariants.{Listed, Refused}
 use Rattle.lexer.proofs.Law.Punctuators.{punctuator-takes, punctuator-is}
 use Rattle.lexer.proofs.token.punctuator_at.Goals as goal

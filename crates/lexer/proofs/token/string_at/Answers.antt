@@ -1,6 +1,5 @@
 use mathlib.Core.Path.{sym, ◌∙◌}
 use native.Mathlib.Omega.{arith}
-use Rattle.std.proofs.Common.{rules}
 use Rattle.lexer.proofs.Law.Runs.{byte-within}
 use Rattle.lexer.proofs.Law.Forms.{string-closed, string-open}
 use Rattle.lexer.proofs.token.string_at.Goals as goal

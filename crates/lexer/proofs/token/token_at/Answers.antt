@@ -1,5 +1,4 @@
 use mathlib.Core.Path.{sym, ◌∙◌}
-use Rattle.std.proofs.Common.{rules}
 use Rattle.lexer.proofs.Law.Forms.{lexeme-end, lexeme-some}
 use Rattle.lexer.proofs.token.token_at.Goals as goal
 

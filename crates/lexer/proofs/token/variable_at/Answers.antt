@@ -1,7 +1,6 @@
 use mathlib.Core.Path.{sym, ◌∙◌}
 use mathlib.Core.Bool.{and-eq-true_iff}
 use native.Mathlib.Omega.{arith}
-use Rattle.std.proofs.Common.{rules}
 use Rattle.lexer.proofs.Law.Runs.{byte-within}
 use Rattle.lexer.proofs.Law.Forms.{variable-other, variable-named, variable-misnamed}
 use Rattle.lexer.proofs.token.variable_at.Goals as goal

@@ -1,5 +1,4 @@
 use native.Mathlib.Omega.{arith}
-use Rattle.std.proofs.Common.{rules}
 use Rattle.lexer.specs.Bytes.{in_class}
 use Rattle.lexer.specs.declared.bytes.Class.TheVariants.{Name}
 use Rattle.lexer.proofs.Law.Runs.{run-within}

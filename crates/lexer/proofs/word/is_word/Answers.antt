@@ -1,6 +1,5 @@
 use mathlib.Core.Path.{◌∙◌}
 use native.Mathlib.Omega.{arith}
-use Rattle.std.proofs.Common.{rules}
 use lib.ListN.{length-drop}
 use Rattle.lexer.proofs.Law.Runs.{word_same, word-other}
 use Rattle.lexer.proofs.word.is_word.Goals as goal

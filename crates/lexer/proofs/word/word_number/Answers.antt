@@ -1,5 +1,4 @@
 use mathlib.Core.Path.{sym, ◌∙◌}
-use Rattle.std.proofs.Common.{rules}
 use Rattle.lexer.proofs.word.word_number.Goals as goal
 
 pub returns-then-is_word : goal.returns-then-is_word

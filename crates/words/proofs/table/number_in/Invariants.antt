@@ -1,14 +1,9 @@
-use mathlib.Core.Path.{◌≡◌, sym, ◌∙◌}
+use mathlib.Core.Path.{◌≡◌}
 use mathlib.Core.List.{map}
-use mathlib.Core.Logic.{inl, inr, ⊎_elim}
 use Prim.Native.Nat.{◌+◌, ◌-◌, ◌≤◌}
-use native.Mathlib.Nat.{zero-add}
-use native.Mathlib.Omega.{arith}
-use Rattle.std.proofs.Common.{rules}
 use lib.ListN.{length, drop}
 use Rattle.lexer.specs.Bytes.{place_in}
 use Rattle.words.specs.Table.{folded, words_in}
-use Rattle.words.proofs.Law.Words.{ends-within, found, passed, past}
 use Rattle.words.proofs.table.number_in.Given as goal
 
 -- `number_in` goes from word to word. The invariant: the words passed, and the word's place among those from here on, make its place in the table.

@@ -1,11 +1,5 @@
-use mathlib.Core.Path.{◌≡◌, refl, sym, ◌∙◌}
-use mathlib.Core.List.{map}
-use Prim.Native.Nat.{◌-◌}
+use mathlib.Core.Path.{refl, sym, ◌∙◌}
 use native.Mathlib.Omega.{arith}
-use Rattle.std.proofs.Common.{rules}
-use borrow.Author.Tests.{not-true, not-false}
-use lib.ListN.{length, drop}
-use Rattle.lexer.specs.Bytes.{begins}
 use Rattle.lexer.proofs.Law.Runs.{byte-within}
 use Rattle.words.specs.Table.{folded}
 use Rattle.words.proofs.Law.Words.{map_more, map-stop, map-end}

@@ -1,14 +1,9 @@
-use mathlib.Core.Path.{◌≡◌, refl, sym, ◌∙◌}
+use mathlib.Core.Path.{◌≡◌}
 use mathlib.Core.List.{map}
 use Prim.Native.Nat.{◌-◌}
-use native.Mathlib.Omega.{arith}
-use Rattle.std.proofs.Common.{rules}
-use borrow.Author.Tests.{not-true, not-false}
 use lib.ListN.{length, drop}
 use Rattle.lexer.specs.Bytes.{begins}
-use Rattle.lexer.proofs.Law.Runs.{byte-within}
 use Rattle.words.specs.Table.{folded}
-use Rattle.words.proofs.Law.Words.{map_more, map-stop, map-end}
 use Rattle.words.proofs.table.stands.Given as goal
 
 -- `stands` compares byte by byte. The invariant: the rest of the word stands at the present place exactly if the whole stands at the first.
