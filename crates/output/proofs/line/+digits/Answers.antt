@@ -14,4 +14,4 @@ returns-then-n-lt10 t c =
 pub returns : goal.returns
 returns t c =
     rw (digits_more _ _ c.if-most-eq0.false c.if-n-lt10.false, sym c.decimal_digit-2.ensures)
-        (and_then _ _ _ c.digits-end.ensures c.byte-2.ensures)
+    (and_then _ _ _ c.digits-end.ensures c.byte-2.ensures)

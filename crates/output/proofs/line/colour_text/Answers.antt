@@ -1,4 +1,3 @@
-use Rattle.std.proofs.Common.{rules}
 use mathlib.Core.Path.{sym}
 use Rattle.output.specs.Line.{colour_text}
 use Rattle.output.proofs.Law.Pages.{and_then}

@@ -1,4 +1,3 @@
-use Rattle.std.proofs.Common.{rules}
 use Rattle.output.proofs.line.colouring_text.Goals as goal
 
 pub returns-in-None : goal.returns-in-None

@@ -1,4 +1,3 @@
-use Rattle.std.proofs.Common.{rules}
 use mathlib.Core.Path.{sym}
 use Rattle.output.proofs.Law.Pages.{and_then}
 use Rattle.output.proofs.line.hex_byte.Goals as goal

@@ -1,4 +1,3 @@
-use Rattle.std.proofs.Common.{rules}
 use Rattle.output.proofs.Law.Lines.{hex-small, hex-large}
 use Rattle.output.proofs.line.hex_digit.Goals as goal
 

@@ -1,4 +1,3 @@
-use Rattle.std.proofs.Common.{rules}
 use mathlib.Core.Path.{◌∙◌, ap}
 use Rattle.output.specs.Line.{front}
 use Rattle.output.proofs.Sizes.{painted-page}

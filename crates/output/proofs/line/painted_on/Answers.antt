@@ -1,4 +1,3 @@
-use Rattle.std.proofs.Common.{rules}
 use Rattle.output.specs.Line.{painted_line}
 use Rattle.output.proofs.Law.Pages.{and_then}
 use Rattle.output.proofs.line.painted_on.Goals as goal

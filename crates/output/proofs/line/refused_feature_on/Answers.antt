@@ -1,4 +1,3 @@
-use Rattle.std.proofs.Common.{rules}
 use Rattle.output.specs.Line.{refused_feature}
 use Rattle.output.proofs.Law.Pages.{and_then}
 use Rattle.output.proofs.line.refused_feature_on.Goals as goal

@@ -1,4 +1,3 @@
-use Rattle.std.proofs.Common.{rules}
 use Rattle.output.specs.Line.{refused_head}
 use Rattle.output.proofs.Law.Pages.{and_then}
 use Rattle.output.proofs.line.refused_head_on.Goals as goal

@@ -1,4 +1,3 @@
-use Rattle.std.proofs.Common.{rules}
 use mathlib.Core.Path.{◌∙◌}
 use Rattle.output.proofs.Law.Lines.{front_fits, front-left-out}
 use Rattle.output.proofs.line.to_front.Goals as goal

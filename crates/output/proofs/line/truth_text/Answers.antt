@@ -1,4 +1,3 @@
-use Rattle.std.proofs.Common.{rules}
 use Rattle.output.proofs.line.truth_text.Goals as goal
 
 pub returns-then-truth : goal.returns-then-truth

@@ -1,4 +1,3 @@
-use Rattle.std.proofs.Common.{rules}
 use Rattle.output.proofs.Law.Pages.{byte_fits, byte-left-out}
 use Rattle.output.proofs.page.byte.Goals as goal
 

@@ -1,9 +1,5 @@
 use Rattle.std.proofs.Common.{rules}
-use mathlib.Core.Path.{◌≡◌, refl}
-use Prim.Native.Nat.{◌-◌}
-use lib.ListN.{length}
-use lib.Seq.{slice}
-use Rattle.output.specs.Page.{written}
+use mathlib.Core.Path.{refl}
 use Rattle.output.proofs.Law.Pages.{done, one_more, part-more, part-stop, part-past}
 use Rattle.output.proofs.page.part.Goals as goal
 

@@ -1,10 +1,8 @@
-use Rattle.std.proofs.Common.{rules}
-use mathlib.Core.Path.{◌≡◌, refl}
+use mathlib.Core.Path.{◌≡◌}
 use Prim.Native.Nat.{◌-◌}
 use lib.ListN.{length}
 use lib.Seq.{slice}
 use Rattle.output.specs.Page.{written}
-use Rattle.output.proofs.Law.Pages.{done, one_more, part-more, part-stop, part-past}
 use Rattle.output.proofs.page.part.Given as goal
 
 -- `part` goes byte by byte. The invariant: with the bytes that are left the page is the whole one.

@@ -1,4 +1,3 @@
-use Rattle.std.proofs.Common.{rules}
 use mathlib.Core.Path.{◌∙◌}
 use Rattle.output.proofs.Law.Pages.{whole}
 use Rattle.output.proofs.page.text.Goals as goal
