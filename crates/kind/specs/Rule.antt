@@ -7,7 +7,6 @@ use Rattle.kind.specs.declared.kind.Kind.{Kind}
 use Rattle.kind.specs.declared.kind.Kind.TheVariants.{Boolean, Number, String, Vec2, Vec3, Vec4}
 use Rattle.kind.specs.declared.kind.Ruled.{Ruled}
 use Rattle.kind.specs.declared.kind.Ruled.TheVariants.{Fault, Gives}
-use Rattle.kind.specs.declared.operation.Unary.{Unary}
 use Rattle.kind.specs.declared.operation.Binary.{Binary}
 use Rattle.kind.specs.declared.operation.Binary.TheVariants.{Add, Subtract, Multiply, Divide, Remainder, Min, Max}
 use Rattle.kind.specs.declared.operation.Ternary.{Ternary}

@@ -67,21 +67,21 @@ same-part lo' hi' a b s = record { slot = λ i l h. s.slot i (omega arith) (omeg
 -- they hold the same shapes there
 holds_same : {v u : List ℕ} {lo hi : ℕ} (s : Shape) → Within lo hi s → Same v u lo hi → Holds v s → Holds u s
 unfolding Holds Within
-holds_same (leaf p tag) t same h = same.tag p t.0 t.1 (omega arith) ∙ h
-holds_same (held p tag n) t same h = same.slot p t.0 t.1 ∙ h
-holds_same {hi = hi} (before p tag e) t same h = (
+holds_same {v = v} {u = u} {lo = lo} {hi = hi} (leaf p tag) t same h = same.tag p t.0 t.1 (omega arith) ∙ h
+holds_same {v = v} {u = u} {lo = lo} {hi = hi} (held p tag n) t same h = same.slot p t.0 t.1 ∙ h
+holds_same {v = v} {u = u} {lo = lo} {hi = hi} (before p tag e) t same h = (
   same.slot p t.0 t.1 ∙ h.0,
-  holds_same e t.3 (same-part (p + 1) hi (omega arith) (omega arith) same) h.1,
+  holds_same {v = v} {u = u} {lo = p + 1} {hi = hi} e t.3 (same-part (p + 1) hi (omega arith) (omega arith) same) h.1,
 )
-holds_same {lo = lo} {hi = hi} (between p tag l r) t same h = (
+holds_same {v = v} {u = u} {lo = lo} {hi = hi} (between p tag l r) t same h = (
   same.slot p (omega arith) t.1 ∙ h.0,
   ap (λ (n : ℕ). n % 1024) (same.slot (p - 1) (omega arith) (omega arith)) ∙ h.1,
-  holds_same l t.3 (same-part lo p (omega arith) (omega arith) same) h.2,
-  holds_same r t.4 (same-part (p + 1) hi (omega arith) (omega arith) same) h.3,
+  holds_same {v = v} {u = u} {lo = lo} {hi = p} l t.3 (same-part lo p (omega arith) (omega arith) same) h.2,
+  holds_same {v = v} {u = u} {lo = p + 1} {hi = hi} r t.4 (same-part (p + 1) hi (omega arith) (omega arith) same) h.3,
 )
-holds_same {lo = lo} (after p tag e) t same h = (
+holds_same {v = v} {u = u} {lo = lo} {hi = hi} (after p tag e) t same h = (
   same.slot p (omega arith) t.1 ∙ h.0,
-  holds_same e t.3 (same-part lo p (omega arith) (omega arith) same) h.1,
+  holds_same {v = v} {u = u} {lo = lo} {hi = p} e t.3 (same-part lo p (omega arith) (omega arith) same) h.1,
 )
 
 same-all : {v u : List ℕ} {lo hi : ℕ} → ((i : ℕ) → lo ≤ i → i < hi → get_or u i 0 ≡ get_or v i 0) → Same v u lo hi

@@ -1,11 +1,13 @@
 -- Parts of texts, and bytes compared.
 use mathlib.Core.Path.{◌≡◌, refl, sym, ◌∙◌, ap}
-use mathlib.Core.Bool.{Bool, true, false}
+use mathlib.Core.Bool.{Bool, true, false, ◌&&◌}
+use lib.Dec.{eqb}
 use mathlib.Core.List.{List, [], ◌∷◌}
 use Prim.Native.Nat.{ℕ, zero, suc, ◌-◌, min}
 use native.Mathlib.Nat.{zero-min, min-zero, suc-min-suc}
 use lib.ListN.{length, take, drop, length-take}
 use lib.Seq.{slice}
+use Rattle.std.specs.Cmp.Lexicographic.{pointwise}
 use Rattle.lexer.specs.Bytes.{same}
 use Rattle.lexer.proofs.Law.Spelling.{slice_is, same-eq, same_self}
 
@@ -19,6 +21,13 @@ decided false s t h = go (same s t) refl
     go : (b : Bool) → same s t ≡ b → false ≡ same s t
     go true e = h.1 (same-eq s t e) ∙ sym e
     go false e = sym e
+
+-- what `==` says of two slices
+pub pointwise-same : (s t : List ℕ) → pointwise eqb s t ≡ same s t
+pointwise-same [] [] = refl
+pointwise-same [] (y ∷ ys) = refl
+pointwise-same (x ∷ xs) [] = refl
+pointwise-same (x ∷ xs) (y ∷ ys) = ap (λ r. eqb x y && r) (pointwise-same xs ys)
 
 -- ---- ends cut to the text
 

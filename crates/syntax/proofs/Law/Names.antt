@@ -96,8 +96,8 @@ positive (k ∷ j ∷ ks) x (inl h) = omega arith
 positive (k ∷ j ∷ ks) x (inr h) = positive (j ∷ ks) x h
 
 pub no-literal : (text : List ℕ) (p : ℕ) (n : Node) (q : ℕ) (tree : ℕ → Tree) (arguments : ℕ → Arguments) →
-    OneOf (1 ∷ 2 ∷ 3 ∷ 4 ∷ 5 ∷ 6 ∷ 7 ∷ []) (tag_of the_type n) → unknown_colour text p (grown n q tree arguments) ≡ p ∷ []
-no-literal text p (Literal k) q tree arguments h = absurd (omega (arith, positive (0 ∷ 1 ∷ 2 ∷ 3 ∷ 4 ∷ 5 ∷ 6 ∷ []) 0 h))
+    ((k : ℕ) → n ≡ Literal k → ⊥) → unknown_colour text p (grown n q tree arguments) ≡ p ∷ []
+no-literal text p (Literal k) q tree arguments h = absurd (h k refl)
 no-literal text p (Variable n) q tree arguments h = refl
 no-literal text p (Unary o e) q tree arguments h = refl
 no-literal text p (Binary o l r) q tree arguments h = refl

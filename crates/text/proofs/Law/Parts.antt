@@ -169,8 +169,8 @@ module _ (x : ℕ) (xs : List ℕ) (k : ℕ) where
 
 -- The bytes of the first k lines are a text of those lines.
 pub lines-front : (text : List ℕ) → ((k : ℕ) → lines (take (bytes_of (take k (lines text))) text) ≡ take k (lines text))
-lines-front [] = λ k. elim k [ zero ↦ refl | suc j ↦ refl ]
-lines-front (x ∷ xs) = λ k. elim k [ zero ↦ refl | suc j ↦ front-byte x xs j (lines-front xs) ]
+lines-front [] = λ k. elim k as (λ k. Front [] [] k) [ zero ↦ refl | suc j ↦ refl ]
+lines-front (x ∷ xs) = λ k. elim k as (λ k. Front (x ∷ xs) (lines (x ∷ xs)) k) [ zero ↦ refl | suc j ↦ front-byte x xs j (lines-front xs) ]
 
 -- ---- the parts from a place on
 

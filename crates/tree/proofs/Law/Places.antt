@@ -18,12 +18,12 @@ within-le (after p tag e) t = omega arith
 
 pub within_wider : {lo hi : ℕ} (lo' hi' : ℕ) (s : Shape) → lo' ≤ lo → hi ≤ hi' → Within lo hi s → Within lo' hi' s
 unfolding Within
-within_wider lo' hi' (leaf p tag) a b t = (omega arith, omega arith, t.2)
-within_wider lo' hi' (held p tag n) a b t = (omega arith, omega arith, t.2, t.3)
-within_wider lo' hi' (before p tag e) a b t = (omega arith, omega arith, t.2, within_wider (p + 1) hi' e (omega arith) b t.3)
-within_wider lo' hi' (between p tag l r) a b t =
-    (omega arith, omega arith, t.2, within_wider lo' p l a (omega arith) t.3, within_wider (p + 1) hi' r (omega arith) b t.4)
-within_wider lo' hi' (after p tag e) a b t = (omega arith, omega arith, t.2, within_wider lo' p e a (omega arith) t.3)
+within_wider {lo = lo} {hi = hi} lo' hi' (leaf p tag) a b t = (omega arith, omega arith, t.2)
+within_wider {lo = lo} {hi = hi} lo' hi' (held p tag n) a b t = (omega arith, omega arith, t.2, t.3)
+within_wider {lo = lo} {hi = hi} lo' hi' (before p tag e) a b t = (omega arith, omega arith, t.2, within_wider {lo = p + 1} {hi = hi} (p + 1) hi' e (omega arith) b t.3)
+within_wider {lo = lo} {hi = hi} lo' hi' (between p tag l r) a b t =
+    (omega arith, omega arith, t.2, within_wider {lo = lo} {hi = p} lo' p l a (omega arith) t.3, within_wider {lo = p + 1} {hi = hi} (p + 1) hi' r (omega arith) b t.4)
+within_wider {lo = lo} {hi = hi} lo' hi' (after p tag e) a b t = (omega arith, omega arith, t.2, within_wider {lo = lo} {hi = p} lo' p e a (omega arith) t.3)
 
 pub root-within : (lo hi : ℕ) (s : Shape) → Within lo hi s → (lo ≤ root s) × (root s < hi)
 unfolding Within

@@ -1,4 +1,3 @@
-use Rattle.std.proofs.Common.{rules}
 use Rattle.cases.proofs.Law.Lines.{digit-decimal, digit-letter, digit-below, digit-between, digit-above}
 use Rattle.cases.proofs.line.digit.Goals as goal
 

@@ -1,6 +1,4 @@
-use Rattle.std.proofs.Common.{◌≡◌, ◌-◌, length, drop, sym, refl, ◌∙◌, rules}
-use borrow.Author.Tests.{not-true, not-false}
-use Rattle.cases.specs.Line.{fits_form}
+use Rattle.std.proofs.Common.{sym, refl, ◌∙◌}
 use Rattle.cases.proofs.Law.Lines.{other_length, fits_more, fits-stop, fits-end}
 use Rattle.cases.proofs.line.fits.Goals as goal
 

@@ -1,7 +1,5 @@
-use Rattle.std.proofs.Common.{◌≡◌, ◌-◌, length, drop, sym, refl, ◌∙◌, rules}
-use borrow.Author.Tests.{not-true, not-false}
+use Rattle.std.proofs.Common.{◌≡◌, ◌-◌, length, drop}
 use Rattle.cases.specs.Line.{fits_form}
-use Rattle.cases.proofs.Law.Lines.{other_length, fits_more, fits-stop, fits-end}
 use Rattle.cases.proofs.line.fits.Given as goal
 
 -- `fits` compares byte by byte. The invariant: line and form are of one length, and what is left of them fits exactly if the whole does.

@@ -1,4 +1,3 @@
-use Rattle.std.proofs.Common.{rules}
 use Rattle.cases.proofs.Law.Lines.{fits-digit, fits-other}
 use Rattle.cases.proofs.line.fits_byte.Goals as goal
 

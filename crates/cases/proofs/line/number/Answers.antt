@@ -1,6 +1,4 @@
-use Rattle.std.proofs.Common.{◌≡◌, ◌-◌, ◌%◌, ◌^◌, ◌<◌, length, refl, ◌∙◌, arith, rules}
-use lib.Seq.{slice}
-use Rattle.cases.specs.Line.{with_digits, number_in}
+use Rattle.std.proofs.Common.{refl, ◌∙◌, arith}
 use Rattle.cases.proofs.Law.Lines.{number_more, number-stop, number_past}
 use Rattle.cases.proofs.line.number.Goals as goal
 

@@ -1,7 +1,6 @@
-use Rattle.std.proofs.Common.{◌≡◌, ◌-◌, ◌%◌, ◌^◌, ◌<◌, length, refl, ◌∙◌, arith, rules}
+use Rattle.std.proofs.Common.{◌≡◌, ◌-◌, ◌%◌, ◌^◌, ◌<◌, length}
 use lib.Seq.{slice}
 use Rattle.cases.specs.Line.{with_digits, number_in}
-use Rattle.cases.proofs.Law.Lines.{number_more, number-stop, number_past}
 use Rattle.cases.proofs.line.number.Given as goal
 
 -- `number` takes in digit by digit. The invariant: the value fits, and with the digits that are left it is the whole number, as far as 64 bits go.

@@ -1,4 +1,3 @@
-use Rattle.std.proofs.Common.{rules}
 use Rattle.cases.proofs.tally.one.Goals as goal
 
 pub returns-in-End : goal.returns-in-End

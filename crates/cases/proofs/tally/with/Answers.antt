@@ -1,4 +1,3 @@
-use Rattle.std.proofs.Common.{rules}
 use Rattle.cases.proofs.tally.with.Goals as goal
 
 pub returns : goal.returns

@@ -1,4 +1,3 @@
-use Rattle.std.proofs.Common.{rules}
 use borrow.Author.Tests.{eq-eqb, ne_eqb}
 use Rattle.tree.specs.Node.{argument_at}
 use Rattle.tree.proofs.node.argument_at.Goals as goal

@@ -1,4 +1,3 @@
-use Rattle.std.proofs.Common.{rules}
 use borrow.Author.Tests.{eq-eqb, ne_eqb}
 use Rattle.tree.specs.Node.{infix_node}
 use Rattle.tree.proofs.node.infix_node.Goals as goal

@@ -1,4 +1,3 @@
-use Rattle.std.proofs.Common.{rules}
 use borrow.Author.Tests.{lt-ltb, le-ltb}
 use Rattle.tree.specs.Node.{node_at}
 use Rattle.tree.proofs.node.node_at.Goals as goal

@@ -1,4 +1,3 @@
-use Rattle.std.proofs.Common.{rules}
 use Rattle.tree.proofs.slots.set_link.Goals as goal
 
 pub returns : goal.returns

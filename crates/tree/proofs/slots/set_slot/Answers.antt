@@ -1,6 +1,5 @@
 use mathlib.Core.Path.{sym}
 use lib.Seq.{set_out}
-use Rattle.std.proofs.Common.{rules}
 use Rattle.tree.proofs.slots.set_slot.Goals as goal
 
 pub returns-then-at-slots : goal.returns-then-at-slots

@@ -1,11 +1,10 @@
 use mathlib.Core.Path.{◌≡◌, refl, ap, ◌∙◌}
-use mathlib.Core.List.{List, ◌++◌, append-nil}
-use Prim.Native.Nat.{ℕ, ◌-◌, ◌≤◌, zero-le}
+use mathlib.Core.List.{List, append-nil}
+use Prim.Native.Nat.{ℕ, zero-le}
 use native.Mathlib.Omega.{arith}
-use lib.ListN.{length, set, drop, replicate, length-set}
+use lib.ListN.{length, set, length-set}
 use lib.Seq.{drop-length}
 use borrow.Author.Fill.{fill_more}
-use Rattle.std.proofs.Common.{rules}
 use Rattle.tree.proofs.write.clear.Goals as goal
 
 pub loop-i-init : goal.loop-i-init

@@ -1,0 +1,39 @@
+use Prim.Native.Nat.{ℕ, ◌<◌}
+use Rattle.std.proofs.Common.{rules}
+use Prim.Native.Nat.{◌+◌}
+use borrow.Author.Tests.{not-true, not-false}
+use native.Mathlib.Omega.{arith}
+use mathlib.Core.Path.{sym, ◌∙◌}
+use Rattle.syntax.specs.Inner.{steps}
+use Rattle.syntax.proofs.Law.Parts.{ahead-tree}
+use Rattle.syntax.proofs.Law.Levels.{conditionals, pairs, lists, first-bad, second-bad, both, expression-none, branches-none, arguments-last}
+use Rattle.syntax.proofs.Law.Levels.{level-unary, binary-bad, binary-goes, operator-number, tail-ends, tail-bad, tail-goes, prefix-operator, unary-none, unary-bad, unary-goes, postfix-bad, postfix-goes}
+use Rattle.syntax.proofs.Law.Levels.{primary-literal, primary-variable, primary-brackets, primary-call, primary-none, call_none, call-bare, call-bad, call-goes}
+use Rattle.syntax.proofs.parse.+arguments_branches_call_expression_level_postfix_primary_tail_unary.Given as goal
+
+abbrev pub decreases-arguments : goal.decreases-arguments
+decreases-arguments l = steps 13 l.text.now l.x
+
+abbrev pub decreases-branches : goal.decreases-branches
+decreases-branches l = steps 13 l.text.now l.x
+
+abbrev pub decreases-call : goal.decreases-call
+decreases-call l = steps 1 l.text.now l.x
+
+abbrev pub decreases-expression : goal.decreases-expression
+decreases-expression l = steps 12 l.text.now l.x
+
+abbrev pub decreases-level : goal.decreases-level
+decreases-level l = let k = l.k in steps (5 + k) l.text.now l.x
+
+abbrev pub decreases-postfix : goal.decreases-postfix
+decreases-postfix l = steps 3 l.text.now l.x
+
+abbrev pub decreases-primary : goal.decreases-primary
+decreases-primary l = steps 2 l.text.now l.x
+
+abbrev pub decreases-tail : goal.decreases-tail
+decreases-tail l = steps 1 l.text.now l.x
+
+abbrev pub decreases-unary : goal.decreases-unary
+decreases-unary l = steps 4 l.text.now l.x
