@@ -1,0 +1,9 @@
+use Prim.Native.Nat.{ℕ, ◌<◌}
+use mathlib.Core.Path.{sym, ◌∙◌}
+use Rattle.std.proofs.Common.{rules}
+use Rattle.evaluator.proofs.Law.Trees.{places-end, places-step}
+use Rattle.evaluator.proofs.arguments.+places_at.Given as goal
+
+-- The commas that are left fall.
+abbrev pub decreases-places_at : goal.decreases-places_at
+decreases-places_at l = l.commas

@@ -1,0 +1,20 @@
+use Rattle.std.proofs.Common.{rules}
+use Rattle.evaluator.proofs.arguments.with_place.Goals as goal
+
+pub returns-in-None : goal.returns-in-None
+returns-in-None c = rw c.in-None.is
+
+pub returns-in-One : goal.returns-in-One
+returns-in-One c = rw c.in-One.is
+
+pub returns-in-Two : goal.returns-in-Two
+returns-in-Two c = rw c.in-Two.is
+
+pub returns-in-Three : goal.returns-in-Three
+returns-in-Three c = rw c.in-Three.is
+
+pub returns-in-Four : goal.returns-in-Four
+returns-in-Four c = rw c.in-Four.is
+
+pub returns-in-More : goal.returns-in-More
+returns-in-More c = rw c.in-More.is

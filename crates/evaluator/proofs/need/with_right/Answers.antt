@@ -1,0 +1,11 @@
+use Rattle.std.proofs.Common.{rules}
+use Rattle.evaluator.proofs.need.with_right.Goals as goal
+
+pub returns-in-Both : goal.returns-in-Both
+returns-in-Both c = rw c.in-Both.is c.applied2.ensures
+
+pub returns-in-UntilTrue : goal.returns-in-UntilTrue
+returns-in-UntilTrue c = rw c.in-UntilTrue.is c.boolean.ensures
+
+pub returns-in-UntilFalse : goal.returns-in-UntilFalse
+returns-in-UntilFalse c = rw c.in-UntilFalse.is c.boolean-in-UntilFalse.ensures

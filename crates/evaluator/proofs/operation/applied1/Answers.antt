@@ -1,0 +1,20 @@
+use Rattle.std.proofs.Common.{rules}
+use mathlib.Core.Path.{sym}
+use mathlib.Core.Bool.{or-false}
+use mathlib.Core.List.{[], ◌∷◌}
+use Rattle.value.specs.Value.{text_in}
+use Rattle.evaluator.proofs.Law.Outcomes.{applied-fault, applied-known}
+use Rattle.evaluator.proofs.operation.applied1.Goals as goal
+
+pub returns-then-is_fault : goal.returns-then-is_fault
+returns-then-is_fault c =
+    let a = c.args in
+    sym (applied-fault (text_in a.style.now a.feature.now) a.found (a.a ∷ []) (rw (or-false, ← c.is_fault.ensures) c.if-is_fault.true))
+
+pub returns-in-Known : goal.returns-in-Known
+returns-in-Known c =
+    let a = c.args in
+    rw (c.in-Known.is, c.apply1.ensures, c.value_in.ensures) (sym (applied-known (text_in a.style.now a.feature.now) _ (a.a ∷ []) (rw (or-false, ← c.is_fault.ensures) c.if-is_fault.false)))
+
+pub returns-in-Unknown : goal.returns-in-Unknown
+returns-in-Unknown c = rw c.in-Unknown.is
