@@ -1,0 +1,16 @@
+use Rattle.std.proofs.Common.{rules}
+use mathlib.Core.Path.{◌≡◌, refl, ◌∙◌}
+use Prim.Native.Nat.{◌-◌}
+use lib.ListN.{length, drop, get_or}
+use Rattle.printed.specs.Word.{after_spaces}
+use Rattle.printed.proofs.Law.Words.{spaces-none, spaces-past, spaces-more, spaces-fit}
+use Rattle.printed.proofs.word.word_start.Given as goal
+
+-- `word_start` passes byte by byte. The invariant: behind the spaces that are left stands what is looked for.
+abbrev pub invariant-loop-i : goal.invariant-loop-i
+invariant-loop-i l =
+    after_spaces l.left (drop l.i l.table) ≡ after_spaces l.number l.table
+
+abbrev pub decreases-loop-i : goal.decreases-loop-i
+decreases-loop-i l =
+    length l.table - l.i
