@@ -1,11 +1,4 @@
-use Prim.Native.Nat.{ℕ, ◌+◌, ◌*◌, ◌<◌}
-use mathlib.Core.Path.{sym, ◌∙◌}
-use Rattle.std.proofs.Common.{rules}
-use Rattle.tree.specs.Node.{tree_at}
-use Rattle.syntax.proofs.Law.Nodes.{arguments-end, arguments-step}
-use Rattle.printed.specs.Shown.{shown}
-use Rattle.output.proofs.Law.Pages.{full, and_then}
-use Rattle.printed.proofs.Law.Trees.{shown-step}
+use Prim.Native.Nat.{◌+◌, ◌*◌}
 use Rattle.printed.proofs.shown.+arguments_binary_call_conditional_pick_tree_unary.Given as goal
 
 -- What each function prints is what its calls print, one behind the other; of a tree it is settled by the node at its place.

@@ -1,4 +1,3 @@
-use Rattle.std.proofs.Common.{rules}
 use Rattle.printed.specs.Shown.{index_of}
 use Rattle.output.proofs.Law.Pages.{and_then}
 use Rattle.printed.proofs.shown.behind.Goals as goal

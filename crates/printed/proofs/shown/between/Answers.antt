@@ -1,4 +1,3 @@
-use Rattle.std.proofs.Common.{rules}
 use Rattle.output.proofs.Law.Pages.{and_then}
 use Rattle.printed.proofs.shown.between.Goals as goal
 

@@ -1,4 +1,3 @@
-use Rattle.std.proofs.Common.{rules}
 use mathlib.Core.Path.{sym, ◌∙◌}
 use Rattle.output.proofs.Law.Pages.{written_none}
 use Rattle.printed.proofs.shown.leaf.Goals as goal

@@ -1,4 +1,3 @@
-use Rattle.std.proofs.Common.{rules}
 use Rattle.printed.proofs.shown.named.Goals as goal
 
 pub returns-then-numbered : goal.returns-then-numbered

@@ -1,4 +1,3 @@
-use Rattle.std.proofs.Common.{rules}
 use Rattle.printed.specs.Shown.{sign_of}
 use Rattle.printed.proofs.shown.sign.Goals as goal
 

@@ -1,9 +1,5 @@
 use Rattle.std.proofs.Common.{rules}
-use mathlib.Core.Path.{◌≡◌, refl}
-use Prim.Native.Nat.{◌-◌}
-use lib.ListN.{length, drop}
-use Rattle.output.specs.Page.{written}
-use Rattle.printed.specs.Word.{first_word, word_of}
+use mathlib.Core.Path.{refl}
 use Rattle.output.proofs.Law.Pages.{done, one_more}
 use Rattle.printed.proofs.Law.Words.{word-past, word-stop, word_more}
 use Rattle.printed.proofs.word.word.Goals as goal

@@ -1,11 +1,8 @@
-use Rattle.std.proofs.Common.{rules}
-use mathlib.Core.Path.{◌≡◌, refl}
+use mathlib.Core.Path.{◌≡◌}
 use Prim.Native.Nat.{◌-◌}
 use lib.ListN.{length, drop}
 use Rattle.output.specs.Page.{written}
 use Rattle.printed.specs.Word.{first_word, word_of}
-use Rattle.output.proofs.Law.Pages.{done, one_more}
-use Rattle.printed.proofs.Law.Words.{word-past, word-stop, word_more}
 use Rattle.printed.proofs.word.word.Given as goal
 
 -- `word` goes byte by byte up to a space. The invariant: with the bytes that are left of the word the page is the whole one.

@@ -1,8 +1,5 @@
-use Rattle.std.proofs.Common.{rules}
-use mathlib.Core.Path.{◌≡◌, refl, ◌∙◌}
-use Prim.Native.Nat.{◌-◌}
-use lib.ListN.{length, drop, get_or}
-use Rattle.printed.specs.Word.{after_spaces}
+use mathlib.Core.Path.{refl, ◌∙◌}
+use lib.ListN.{get_or}
 use Rattle.printed.proofs.Law.Words.{spaces-none, spaces-past, spaces-more, spaces-fit}
 use Rattle.printed.proofs.word.word_start.Goals as goal
 

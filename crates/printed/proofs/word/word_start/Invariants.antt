@@ -1,9 +1,7 @@
-use Rattle.std.proofs.Common.{rules}
-use mathlib.Core.Path.{◌≡◌, refl, ◌∙◌}
+use mathlib.Core.Path.{◌≡◌}
 use Prim.Native.Nat.{◌-◌}
-use lib.ListN.{length, drop, get_or}
+use lib.ListN.{length, drop}
 use Rattle.printed.specs.Word.{after_spaces}
-use Rattle.printed.proofs.Law.Words.{spaces-none, spaces-past, spaces-more, spaces-fit}
 use Rattle.printed.proofs.word.word_start.Given as goal
 
 -- `word_start` passes byte by byte. The invariant: behind the spaces that are left stands what is looked for.
