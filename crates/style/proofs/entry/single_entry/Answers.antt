@@ -1,4 +1,3 @@
-use Rattle.std.proofs.Common.{rules}
 use Rattle.style.proofs.entry.single_entry.Goals as goal
 
 pub returns-then-colour : goal.returns-then-colour

@@ -1,4 +1,3 @@
-use Rattle.std.proofs.Common.{rules}
 use Rattle.style.proofs.head.refusal_in.Goals as goal
 
 pub returns-in-Property : goal.returns-in-Property

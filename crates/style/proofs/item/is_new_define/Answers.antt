@@ -1,4 +1,3 @@
-use Rattle.std.proofs.Common.{rules}
 use Rattle.style.proofs.item.is_new_define.Goals as goal
 
 pub returns : goal.returns

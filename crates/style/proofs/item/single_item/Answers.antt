@@ -1,4 +1,3 @@
-use Rattle.std.proofs.Common.{rules}
 use Rattle.style.proofs.item.single_item.Goals as goal
 
 pub returns-then-colour : goal.returns-then-colour
