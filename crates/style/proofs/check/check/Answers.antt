@@ -1,4 +1,3 @@
-use Rattle.std.proofs.Common.{rules}
 use mathlib.Core.Path.{sym, ◌∙◌, ap}
 use Rattle.style.specs.Head.{answer_of}
 use Rattle.style.proofs.Law.Calls.{zeroed, left_alone}

@@ -1,4 +1,3 @@
-use Rattle.std.proofs.Common.{rules}
 use mathlib.Core.Path.{◌∙◌}
 use Rattle.style.proofs.Law.Entries.{condition-refused, condition-accepted}
 use Rattle.style.proofs.entry.condition.Goals as goal

@@ -1,4 +1,3 @@
-use Rattle.std.proofs.Common.{rules}
 use Rattle.style.proofs.Law.Entries.{define-refused, define-accepted}
 use Rattle.style.proofs.entry.define.Goals as goal
 

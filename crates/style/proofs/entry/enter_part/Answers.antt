@@ -1,4 +1,3 @@
-use Rattle.std.proofs.Common.{rules}
 use Rattle.text.specs.Slice.{put_back}
 use Rattle.style.proofs.Law.Expressions.{field-refused, field-accepted}
 use Rattle.style.proofs.entry.enter_part.Goals as goal

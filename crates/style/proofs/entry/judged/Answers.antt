@@ -1,4 +1,3 @@
-use Rattle.std.proofs.Common.{rules}
 use mathlib.Core.Path.{refl, subst}
 use Rattle.style.specs.Inner.{ItemLies}
 use Rattle.style.proofs.Law.Entries.{judged-refused, judged-property, judged-define, judged-show, judged-colour, judged-condition}

@@ -1,4 +1,3 @@
-use Rattle.std.proofs.Common.{rules}
 use Rattle.style.proofs.Law.Entries.{read_is}
 use Rattle.style.proofs.entry.read.Goals as goal
 

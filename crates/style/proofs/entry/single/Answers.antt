@@ -1,4 +1,3 @@
-use Rattle.std.proofs.Common.{rules}
 use Rattle.style.proofs.Law.Entries.{single-refused, single-accepted}
 use Rattle.style.proofs.entry.single.Goals as goal
 

@@ -1,4 +1,3 @@
-use Rattle.std.proofs.Common.{rules}
 use Rattle.style.proofs.Law.Entries.{colour-refused, colour-accepted}
 use Rattle.style.proofs.entry.with_colour.Goals as goal
 

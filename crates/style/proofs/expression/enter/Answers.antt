@@ -1,4 +1,3 @@
-use Rattle.std.proofs.Common.{rules}
 use mathlib.Core.Path.{◌∙◌, ap}
 use Rattle.checker.specs.Name.{number_of, resolved_slots}
 use Rattle.style.proofs.Law.Expressions.{judge-refuses, check-refuses, check-accepts}

@@ -1,4 +1,3 @@
-use Rattle.std.proofs.Common.{rules}
 use native.Mathlib.Omega.{arith}
 use Rattle.style.proofs.Law.Calls.{too_small, too_long, all_lines}
 use Rattle.style.proofs.head.compile.Goals as goal

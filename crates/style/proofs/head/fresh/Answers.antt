@@ -1,4 +1,3 @@
-use Rattle.std.proofs.Common.{rules}
 use mathlib.Core.Path.{refl}
 use Rattle.kind.specs.Set.{set_of, single_of}
 use Rattle.checker.specs.Property.{packed_of}

@@ -1,11 +1,8 @@
-use Rattle.std.proofs.Common.{rules}
-use mathlib.Core.Path.{◌≡◌, refl, sym, ◌∙◌}
-use Prim.Native.Nat.{◌+◌, ◌-◌}
+use mathlib.Core.Path.{refl, sym, ◌∙◌}
 use native.Mathlib.Omega.{arith}
-use lib.ListN.{length}
 use Rattle.text.proofs.Law.Parts.{end-within}
 use Rattle.text.specs.Slice.{put_back}
-use Rattle.style.proofs.Law.Loop.{Sofar, at_first, turn-refused, turn_on, turn-fits, same-room, lines-refused, lines_end}
+use Rattle.style.proofs.Law.Loop.{at_first, turn-refused, turn_on, turn-fits, same-room, lines-refused, lines_end}
 use Rattle.style.proofs.head.read_lines.Goals as goal
 
 pub loop-at-init : goal.loop-at-init

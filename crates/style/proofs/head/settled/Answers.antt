@@ -1,4 +1,3 @@
-use Rattle.std.proofs.Common.{rules}
 use Rattle.style.proofs.Law.Loop.{settled-kept, settled-cleared}
 use Rattle.style.proofs.head.settled.Goals as goal
 

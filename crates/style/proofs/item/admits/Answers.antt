@@ -1,4 +1,3 @@
-use Rattle.std.proofs.Common.{rules}
 use Rattle.style.specs.Style.{admits}
 use Rattle.style.proofs.item.admits.Goals as goal
 

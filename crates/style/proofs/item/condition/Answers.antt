@@ -1,4 +1,3 @@
-use Rattle.std.proofs.Common.{rules}
 use mathlib.Core.Path.{sym, ◌∙◌}
 use Rattle.style.proofs.Law.Items.{condition-count, condition-is}
 use Rattle.style.proofs.item.condition.Goals as goal

@@ -1,6 +1,4 @@
-use Rattle.std.proofs.Common.{rules}
 use mathlib.Core.Path.{sym, ◌∙◌}
-use borrow.Author.Tests.{not-true, not-false}
 use Rattle.style.proofs.Law.Items.{define-count, define-name, define-is}
 use Rattle.style.proofs.item.define.Goals as goal
 

@@ -1,4 +1,3 @@
-use Rattle.std.proofs.Common.{rules}
 use mathlib.Core.Path.{◌∙◌, ap}
 use Rattle.checker.specs.Property.{packed_of}
 use Rattle.style.proofs.Law.Items.{flags-unknown, flags-known}

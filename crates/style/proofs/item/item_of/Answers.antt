@@ -1,11 +1,8 @@
-use Rattle.std.proofs.Common.{rules}
 use mathlib.Core.Path.{refl}
 use native.Mathlib.Omega.{arith}
 use Rattle.text.proofs.Law.Parts.{end-within}
-use borrow.Author.Tests.{not-true, not-false}
 use Rattle.text.specs.declared.word.Line.TheVariants as word
 use Rattle.style.proofs.Law.Items.{word-refused, item_out, item-as}
-use Rattle.style.proofs.item.item_of.Reads as reads
 use Rattle.style.proofs.item.item_of.Goals as goal
 
 pub slice_bounds-line_of-end : goal.slice_bounds-line_of-end

@@ -1,6 +1,4 @@
-use Rattle.std.proofs.Common.{rules}
 use mathlib.Core.Path.{sym, ◌∙◌}
-use borrow.Author.Tests.{not-true, not-false}
 use Rattle.style.proofs.Law.Items.{property-count, property-name, property-type, property-flags}
 use Rattle.style.proofs.item.property.Goals as goal
 

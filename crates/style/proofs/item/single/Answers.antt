@@ -1,4 +1,3 @@
-use Rattle.std.proofs.Common.{rules}
 use mathlib.Core.Path.{sym, ◌∙◌}
 use Rattle.style.proofs.Law.Items.{single-count, single-is}
 use Rattle.style.proofs.item.single.Goals as goal
