@@ -1,4 +1,3 @@
-use Rattle.std.proofs.Common.{rules}
 use mathlib.Core.Path.{◌∙◌}
 use Rattle.painter.specs.Applied.{source}
 use Rattle.painter.proofs.Law.Calls.{applied-short, applied-refused, applied-given}

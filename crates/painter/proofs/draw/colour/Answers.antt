@@ -1,4 +1,3 @@
-use Rattle.std.proofs.Common.{rules}
 use mathlib.Core.Path.{◌∙◌, ap}
 use Rattle.colour.specs.Colour.{clamped_of}
 use Rattle.value.specs.Value.{colour_in}

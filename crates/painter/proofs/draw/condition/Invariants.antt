@@ -1,11 +1,7 @@
-use Rattle.std.proofs.Common.{rules}
-use mathlib.Core.Path.{sym, ◌∙◌, ap}
-use native.Mathlib.Omega.{arith}
 use Prim.Native.Nat.{◌-◌, min}
 use Rattle.plan.specs.Layout.{most_conditions, condition_count, number_at}
-use Rattle.value.specs.Value.{truth}
 use Rattle.painter.specs.Applied.{source, row_value}
-use Rattle.painter.proofs.Law.Turns.{Seeking, seeking-start, seeking-found, seeking-turn, seeking-end}
+use Rattle.painter.proofs.Law.Turns.{Seeking}
 use Rattle.painter.proofs.draw.condition.Given as goal
 
 -- `condition`: the loop's turns.

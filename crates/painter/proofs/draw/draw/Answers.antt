@@ -1,4 +1,3 @@
-use Rattle.std.proofs.Common.{rules}
 use Rattle.painter.proofs.draw.draw.Goals as goal
 
 pub returns : goal.returns

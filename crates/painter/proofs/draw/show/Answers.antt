@@ -1,4 +1,3 @@
-use Rattle.std.proofs.Common.{rules}
 use mathlib.Core.Path.{◌∙◌, ap}
 use Rattle.value.specs.Value.{truth}
 use Rattle.painter.specs.Applied.{source, row_value}

@@ -1,9 +1,5 @@
-use Rattle.std.proofs.Common.{rules}
 use native.Mathlib.Omega.{arith}
-use Prim.Native.Nat.{◌-◌, min}
-use Rattle.plan.specs.Layout.{most_defines, define_count, number_at}
-use Rattle.painter.specs.Applied.{source}
-use Rattle.painter.proofs.Law.Turns.{Storing, storing-start, storing-turn, storing-end}
+use Rattle.painter.proofs.Law.Turns.{storing-start, storing-turn, storing-end}
 use Rattle.painter.proofs.draw.store_defines.Goals as goal
 
 pub loop-i-init : goal.loop-i-init

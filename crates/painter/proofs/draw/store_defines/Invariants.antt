@@ -1,9 +1,7 @@
-use Rattle.std.proofs.Common.{rules}
-use native.Mathlib.Omega.{arith}
 use Prim.Native.Nat.{◌-◌, min}
 use Rattle.plan.specs.Layout.{most_defines, define_count, number_at}
 use Rattle.painter.specs.Applied.{source}
-use Rattle.painter.proofs.Law.Turns.{Storing, storing-start, storing-turn, storing-end}
+use Rattle.painter.proofs.Law.Turns.{Storing}
 use Rattle.painter.proofs.draw.store_defines.Given as goal
 
 -- `store_defines`: the loop's turns.

@@ -1,4 +1,3 @@
-use Rattle.std.proofs.Common.{rules}
 use mathlib.Core.Path.{◌∙◌, ap}
 use Rattle.painter.specs.Applied.{source, all_defined}
 use Rattle.painter.proofs.Law.Calls.{given-refused, given-read}

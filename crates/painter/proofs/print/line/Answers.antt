@@ -1,4 +1,3 @@
-use Rattle.std.proofs.Common.{rules}
 use Rattle.painter.proofs.Law.Calls.{printed}
 use Rattle.painter.proofs.print.line.Goals as goal
 
