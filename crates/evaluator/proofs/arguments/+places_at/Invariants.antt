@@ -1,7 +1,3 @@
-use Prim.Native.Nat.{ℕ, ◌<◌}
-use mathlib.Core.Path.{sym, ◌∙◌}
-use Rattle.std.proofs.Common.{rules}
-use Rattle.evaluator.proofs.Law.Trees.{places-end, places-step}
 use Rattle.evaluator.proofs.arguments.+places_at.Given as goal
 
 -- The commas that are left fall.

@@ -1,4 +1,3 @@
-use Rattle.std.proofs.Common.{rules}
 use Rattle.evaluator.proofs.arguments.with_place.Goals as goal
 
 pub returns-in-None : goal.returns-in-None

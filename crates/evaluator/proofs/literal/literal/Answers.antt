@@ -1,4 +1,3 @@
-use Rattle.std.proofs.Common.{rules}
 use Rattle.evaluator.proofs.Law.Texts.{literal-cut}
 use Rattle.evaluator.proofs.literal.literal.Goals as goal
 

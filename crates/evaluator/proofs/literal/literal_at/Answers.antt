@@ -1,4 +1,3 @@
-use Rattle.std.proofs.Common.{rules}
 use Prim.Native.Nat.{◌-◌}
 use lib.Ieee.{of_bits, div}
 use lib.ListN.{get_or-eq_default}

@@ -1,4 +1,3 @@
-use Rattle.std.proofs.Common.{rules}
 use Rattle.evaluator.proofs.literal.token_span.Goals as goal
 
 pub returns-in-Number : goal.returns-in-Number

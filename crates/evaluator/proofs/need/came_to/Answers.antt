@@ -1,5 +1,4 @@
 use mathlib.Core.Path.{refl, sym, ◌∙◌}
-use Rattle.std.proofs.Common.{rules}
 use Rattle.evaluator.proofs.Law.Outcomes.{came-by}
 use Rattle.evaluator.proofs.need.came_to.Goals as goal
 

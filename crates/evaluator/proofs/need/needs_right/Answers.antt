@@ -1,4 +1,3 @@
-use Rattle.std.proofs.Common.{rules}
 use Rattle.evaluator.proofs.need.needs_right.Goals as goal
 
 pub returns-in-Both : goal.returns-in-Both

@@ -1,4 +1,3 @@
-use Rattle.std.proofs.Common.{rules}
 use Rattle.evaluator.proofs.operation.applied0.Goals as goal
 
 pub returns-in-Known : goal.returns-in-Known

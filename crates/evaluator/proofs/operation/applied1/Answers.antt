@@ -1,4 +1,3 @@
-use Rattle.std.proofs.Common.{rules}
 use mathlib.Core.Path.{sym}
 use mathlib.Core.Bool.{or-false}
 use mathlib.Core.List.{[], ◌∷◌}

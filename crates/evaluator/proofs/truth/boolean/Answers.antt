@@ -1,4 +1,3 @@
-use Rattle.std.proofs.Common.{rules}
 use Rattle.evaluator.proofs.Law.Outcomes.{branch-tested}
 use Rattle.evaluator.proofs.truth.boolean.Goals as goal
 

@@ -1,4 +1,3 @@
-use Rattle.std.proofs.Common.{rules}
 use Rattle.evaluator.proofs.truth.tested.Goals as goal
 
 pub returns-in-Fault : goal.returns-in-Fault

@@ -1,4 +1,3 @@
-use Rattle.std.proofs.Common.{rules}
 use Rattle.evaluator.proofs.truth.tested_value.Goals as goal
 
 pub returns-in-Undefined : goal.returns-in-Undefined

@@ -1,5 +1,4 @@
 use native.Mathlib.Numerals.{towards_suc}
-use Rattle.std.proofs.Common.{rules}
 use borrow.Author.Tests.{le-leb, lt-leb}
 use Rattle.plan.specs.Layout.{undeclared}
 use Rattle.evaluator.specs.Values.{stored_spans, stored_floats}

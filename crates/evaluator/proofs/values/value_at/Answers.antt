@@ -1,4 +1,3 @@
-use Rattle.std.proofs.Common.{rules}
 use borrow.Author.Tests.{le-leb, lt-leb, ne_eqb}
 use Rattle.plan.specs.Layout.{undeclared}
 use Rattle.evaluator.specs.Values.{value_at}

@@ -1,6 +1,4 @@
-use Rattle.std.proofs.Common.{rules}
 use mathlib.Core.Path.{sym, ◌∙◌}
-use borrow.Author.Tests.{not-true, not-false}
 use Rattle.feature.proofs.Law.Lines.{too_long, too_many, other_word, its-fields, refuses, reads}
 use Rattle.feature.proofs.feature.read.Goals as goal
 

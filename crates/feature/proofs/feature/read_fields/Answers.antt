@@ -1,10 +1,8 @@
-use Rattle.std.proofs.Common.{rules}
 use mathlib.Core.Path.{◌∙◌, ap₂}
-use Prim.Native.Nat.{◌-◌}
 use native.Mathlib.Omega.{arith}
 use Rattle.feature.specs.Field.{conformed}
 use Rattle.text.proofs.Law.Parts.{some-part, end-from, end-within}
-use Rattle.feature.proofs.Law.Lines.{Sofar, other-count, fields-start, at_field, field-wrong, field_stored, all-stored}
+use Rattle.feature.proofs.Law.Lines.{other-count, fields-start, at_field, field-wrong, field_stored, all-stored}
 use Rattle.feature.proofs.feature.read_fields.Goals as goal
 
 pub overflow_sub-count : goal.overflow_sub-count

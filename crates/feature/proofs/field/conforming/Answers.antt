@@ -1,4 +1,3 @@
-use Rattle.std.proofs.Common.{rules}
 use Rattle.feature.proofs.field.conforming.Goals as goal
 
 pub returns-then-has : goal.returns-then-has

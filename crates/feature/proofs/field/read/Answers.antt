@@ -1,4 +1,3 @@
-use Rattle.std.proofs.Common.{rules}
 use mathlib.Core.Path.{sym, ◌∙◌}
 use Rattle.feature.proofs.Law.Fields.{says_nothing, says-null, says-true, says-false, says-text, says-numbers}
 use Rattle.feature.proofs.field.read.Goals as goal

@@ -1,4 +1,3 @@
-use Rattle.std.proofs.Common.{rules}
 use Rattle.feature.proofs.numeral.extended.Goals as goal
 
 pub returns-in-Is : goal.returns-in-Is

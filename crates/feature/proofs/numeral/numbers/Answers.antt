@@ -1,12 +1,7 @@
-use Rattle.std.proofs.Common.{rules}
-use mathlib.Core.Path.{◌≡◌, ◌∙◌}
-use Prim.Native.Nat.{◌≤◌, ◌+◌, ◌-◌}
+use mathlib.Core.Path.{◌∙◌}
 use native.Mathlib.Omega.{arith}
-use lib.ListN.{length}
-use Rattle.text.specs.Parts.{field}
-use Rattle.feature.specs.Field.{numbers_of}
-use Rattle.text.proofs.Law.Parts.{parts_from, end-within}
-use Rattle.feature.proofs.Law.Numbers.{continued, numbers-start, numbers-turn, numbers-end}
+use Rattle.text.proofs.Law.Parts.{end-within}
+use Rattle.feature.proofs.Law.Numbers.{numbers-start, numbers-turn, numbers-end}
 use Rattle.feature.proofs.numeral.numbers.Goals as goal
 
 pub loop-at-init : goal.loop-at-init

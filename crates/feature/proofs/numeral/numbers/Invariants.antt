@@ -1,12 +1,9 @@
-use Rattle.std.proofs.Common.{rules}
-use mathlib.Core.Path.{◌≡◌, ◌∙◌}
+use mathlib.Core.Path.{◌≡◌}
 use Prim.Native.Nat.{◌≤◌, ◌+◌, ◌-◌}
-use native.Mathlib.Omega.{arith}
 use lib.ListN.{length}
-use Rattle.text.specs.Parts.{field}
 use Rattle.feature.specs.Field.{numbers_of}
-use Rattle.text.proofs.Law.Parts.{parts_from, end-within}
-use Rattle.feature.proofs.Law.Numbers.{continued, numbers-start, numbers-turn, numbers-end}
+use Rattle.text.proofs.Law.Parts.{parts_from}
+use Rattle.feature.proofs.Law.Numbers.{continued}
 use Rattle.feature.proofs.numeral.numbers.Given as goal
 
 -- `numbers` goes from part to part. The invariant: what is read already, and then the parts that are left, give the whole.

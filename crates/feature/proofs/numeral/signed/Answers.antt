@@ -1,4 +1,3 @@
-use Rattle.std.proofs.Common.{rules}
 use Rattle.feature.specs.Field.{numeral_of}
 use Rattle.feature.proofs.numeral.signed.Goals as goal
 
