@@ -307,12 +307,12 @@ at_first head room plan e wide =
 -- ---- one turn
 
 refused-is : (s : Style) (line w v : List ℕ) (r : entries.Entry) (j : Judged Entry) → is_refused r ≡ true → EntryIs s line w v r j → j ≡ refused (refusal_in r)
-refused-is s line w v (entry.Refused x) j e is = is
-refused-is s line w v (entry.Property name k) j e is = absurd (false≢true e)
-refused-is s line w v (entry.Define name x) j e is = absurd (false≢true e)
-refused-is s line w v (entry.Show x) j e is = absurd (false≢true e)
-refused-is s line w v (entry.Colour x) j e is = absurd (false≢true e)
-refused-is s line w v (entry.Condition x y) j e is = absurd (false≢true e)
+refused-is s _ w v (entry.Refused x) j e is = is
+refused-is s _ w v (entry.Property name k) j e is = absurd (false≢true e)
+refused-is s _ w v (entry.Define name x) j e is = absurd (false≢true e)
+refused-is s _ w v (entry.Show x) j e is = absurd (false≢true e)
+refused-is s _ w v (entry.Colour x) j e is = absurd (false≢true e)
+refused-is s _ w v (entry.Condition x y) j e is = absurd (false≢true e)
 
 module _ (head room₀ room names plan : List ℕ) (at n : ℕ) (f : Sofar head room₀ room names plan at n) (short : length head ≤ 32768) (more : at < length head) (end : ℕ) (is : end ≡ end_from 10 head at) (u : List ℕ)
     (r : entries.Entry) (read : ReadBy head names plan (take (end - at) (drop at head)) (take (end - at) (drop at room)) u r) where

@@ -1,4 +1,3 @@
-use Rattle.std.proofs.Common.{rules}
 use Rattle.checker.specs.Inner.{node_by}
 use Rattle.checker.proofs.check.node.Goals as goal
 

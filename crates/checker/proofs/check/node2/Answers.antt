@@ -1,4 +1,3 @@
-use Rattle.std.proofs.Common.{rules}
 use mathlib.Core.List.{[], ◌∷◌}
 use Rattle.checker.proofs.Law.Checks.{node-all}
 use Rattle.checker.proofs.check.node2.Goals as goal

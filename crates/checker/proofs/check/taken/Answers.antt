@@ -1,4 +1,3 @@
-use Rattle.std.proofs.Common.{rules}
 use Rattle.kind.specs.Set.{set_of, single_of}
 use Rattle.checker.proofs.check.taken.Goals as goal
 

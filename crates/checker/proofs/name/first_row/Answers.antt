@@ -1,9 +1,5 @@
-use mathlib.Core.Path.{◌≡◌, refl, sym, ◌∙◌}
-use Prim.Native.Nat.{◌-◌, ◌≤◌}
+use mathlib.Core.Path.{refl, sym, ◌∙◌}
 use native.Mathlib.Omega.{arith}
-use Rattle.std.proofs.Common.{rules}
-use Rattle.lexer.specs.Bytes.{same}
-use Rattle.checker.specs.Name.{row_at, first_row}
 use Rattle.checker.proofs.Law.Names.{row-found, row-passed, row-behind}
 use Rattle.checker.proofs.name.first_row.Goals as goal
 

@@ -1,10 +1,7 @@
-use mathlib.Core.Path.{◌≡◌, refl, sym, ◌∙◌}
+use mathlib.Core.Path.{◌≡◌}
 use Prim.Native.Nat.{◌-◌, ◌≤◌}
-use native.Mathlib.Omega.{arith}
-use Rattle.std.proofs.Common.{rules}
 use Rattle.lexer.specs.Bytes.{same}
 use Rattle.checker.specs.Name.{row_at, first_row}
-use Rattle.checker.proofs.Law.Names.{row-found, row-passed, row-behind}
 use Rattle.checker.proofs.name.first_row.Given as goal
 
 -- `first_row` goes from row to row. The invariant: the first row from the present one on is the first of all.

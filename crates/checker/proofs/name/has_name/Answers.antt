@@ -1,4 +1,3 @@
-use Rattle.std.proofs.Common.{rules}
 use Rattle.checker.proofs.Law.Names.{whole-name}
 use Rattle.checker.proofs.name.has_name.Goals as goal
 

@@ -1,4 +1,3 @@
-use Rattle.std.proofs.Common.{rules}
 use Rattle.checker.proofs.Law.Names.{define-found, define-missed, in-define, in-style}
 use Rattle.checker.proofs.name.number.Goals as goal
 

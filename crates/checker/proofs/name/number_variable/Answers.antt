@@ -1,6 +1,5 @@
 use mathlib.Core.Path.{refl}
 use native.Mathlib.Omega.{arith}
-use Rattle.std.proofs.Common.{rules}
 use Rattle.checker.specs.Name.{number_of}
 use Rattle.checker.proofs.Law.Names.{variable-numbered}
 use Rattle.checker.proofs.name.number_variable.Goals as goal

@@ -1,4 +1,3 @@
-use Rattle.std.proofs.Common.{rules}
 use Rattle.checker.proofs.Law.Names.{property-found, property-missed}
 use Rattle.checker.proofs.name.property_row.Goals as goal
 

@@ -1,9 +1,5 @@
-use Prim.Native.Nat.{◌-◌}
 use native.Mathlib.Omega.{arith}
-use Rattle.std.proofs.Common.{rules}
-use lib.ListN.{length}
-use Rattle.checker.specs.Name.{number_of}
-use Rattle.checker.proofs.Law.Names.{found-ahead, found-variable, Resolving, resolving, resolving-variable, resolving-other, resolved-bad, resolved-end}
+use Rattle.checker.proofs.Law.Names.{found-ahead, found-variable, resolving, resolving-variable, resolving-other, resolved-bad, resolved-end}
 use Rattle.checker.proofs.name.resolve.Goals as goal
 
 pub loop-token-init : goal.loop-token-init

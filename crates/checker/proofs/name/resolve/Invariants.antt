@@ -1,9 +1,7 @@
 use Prim.Native.Nat.{◌-◌}
-use native.Mathlib.Omega.{arith}
-use Rattle.std.proofs.Common.{rules}
 use lib.ListN.{length}
 use Rattle.checker.specs.Name.{number_of}
-use Rattle.checker.proofs.Law.Names.{found-ahead, found-variable, Resolving, resolving, resolving-variable, resolving-other, resolved-bad, resolved-end}
+use Rattle.checker.proofs.Law.Names.{Resolving}
 use Rattle.checker.proofs.name.resolve.Given as goal
 
 -- `resolve` goes from token to token. The invariant: the tokens from the present place on bring the slots to what all of them make of the first ones.

@@ -1,4 +1,3 @@
-use Rattle.std.proofs.Common.{rules}
 use borrow.Author.Tests.{lt-ltb, le-ltb}
 use Rattle.kind.specs.Set.{set_of, single_of}
 use Rattle.plan.specs.Layout.{undeclared}
