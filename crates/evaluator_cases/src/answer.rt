@@ -6,6 +6,7 @@ use reports::report;
 
 // The number is 7 or, with the set's byte, 0.
 fn number_agrees(
+    rt: &impl Print,
     name: &[u8],
     head: &[u8],
     style: &[u8],
@@ -19,19 +20,26 @@ fn number_agrees(
     if same {
         return true;
     }
-    report::text_difference(name, head, style);
-    report::text(b"got");
-    report::hex(b" ", number, 1);
-    report::hex(b" ", place, 3);
-    report::hex(b" ", set, 2);
-    report::text(b"\n");
+    report::text_difference(rt, name, head, style);
+    report::text(rt, b"got");
+    report::hex(rt, b" ", number, 1);
+    report::hex(rt, b" ", place, 3);
+    report::hex(rt, b" ", set, 2);
+    report::text(rt, b"\n");
     false
 }
 
-pub(crate) fn agrees(name: &[u8], head: &[u8], style: &[u8], verdict: Verdict) -> bool {
+pub(crate) fn agrees(
+    rt: &impl Print,
+    name: &[u8],
+    head: &[u8],
+    style: &[u8],
+    verdict: Verdict,
+) -> bool {
     match verdict {
         Verdict::Refused(refusal) => {
             number_agrees(
+                rt,
                 name,
                 head,
                 style,
@@ -40,6 +48,6 @@ pub(crate) fn agrees(name: &[u8], head: &[u8], style: &[u8], verdict: Verdict) -
                 0,
             )
         }
-        Verdict::Accepted(set) => number_agrees(name, head, style, 0, 0, packed(set) as u64),
+        Verdict::Accepted(set) => number_agrees(rt, name, head, style, 0, 0, packed(set) as u64),
     }
 }

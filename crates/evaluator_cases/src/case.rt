@@ -5,6 +5,7 @@ use cases::tally::Outcome;
 use cases::{line, tally};
 use plan::layout::{NAMES, PLAN};
 use reports::{read, report};
+use std::io::Read;
 
 const LINE: usize = 32;
 
@@ -13,41 +14,53 @@ fn is_well_formed(head: &[u8]) -> bool {
 }
 
 // Reads the names.
-fn named_agrees(fd: i32, name: &[u8], head: &[u8], style: &[u8]) -> bool {
+fn named_agrees(
+    rt: &impl Print,
+    file: &mut impl Read,
+    name: &[u8],
+    head: &[u8],
+    style: &[u8],
+) -> bool {
     let mut names = [0usize; NAMES];
     let mut plan = [0u16; PLAN];
     let count = line::number(head, 13, 15);
-    if names::read(fd, count, &mut names, &mut plan) {
-        return expression::agrees(fd, name, head, style, &names, &plan);
+    if names::read(file, count, &mut names, &mut plan) {
+        return expression::agrees(rt, file, name, head, style, &names, &plan);
     }
-    report::malformed(name, head)
+    report::malformed(rt, name, head)
 }
 
-fn style_agrees(fd: i32, name: &[u8], head: &[u8], style: &mut [u8]) -> bool {
-    if read::text(fd, style) {
-        return named_agrees(fd, name, head, style);
+fn style_agrees(
+    rt: &impl Print,
+    file: &mut impl Read,
+    name: &[u8],
+    head: &[u8],
+    style: &mut [u8],
+) -> bool {
+    if read::text(file, style) {
+        return named_agrees(rt, file, name, head, style);
     }
-    report::malformed(name, head)
+    report::malformed(rt, name, head)
 }
 
 // A line that is malformed does not agree.
-fn agrees(fd: i32, name: &[u8], head: &[u8]) -> bool {
+fn agrees(rt: &impl Print, file: &mut impl Read, name: &[u8], head: &[u8]) -> bool {
     let length = line::number(head, 0, 4) as usize;
     if is_well_formed(head) {
         if length <= read::MOST {
-            let mut room = io::buffer();
-            return style_agrees(fd, name, head, &mut room[..length]);
+            let mut room = [0u8; read::MOST];
+            return style_agrees(rt, file, name, head, &mut room[..length]);
         }
     }
-    report::malformed(name, head)
+    report::malformed(rt, name, head)
 }
 
 // Nothing more to read is the end.
-pub(crate) fn next(fd: i32, name: &[u8]) -> Outcome {
+pub(crate) fn next(rt: &impl Print, file: &mut impl Read, name: &[u8]) -> Outcome {
     let mut head = [0u8; LINE];
-    let n = io::read_full(fd, &mut head);
+    let n = read::some(file, &mut head);
     if n == 0 {
         return Outcome::End;
     }
-    tally::compared(agrees(fd, name, &head[..n]))
+    tally::compared(agrees(rt, file, name, &head[..n]))
 }

@@ -5,6 +5,7 @@ use checker::check::{Wanted, check};
 use checker::name::{Scope, resolve};
 use plan::layout::{Names, Plan};
 use reports::report;
+use std::io::Read;
 use syntax::judge::{Judgement, judge};
 
 // As many as an expression has bytes at most.
@@ -29,7 +30,8 @@ fn wanted(head: &[u8]) -> Wanted {
 
 // All of them are compared, whatever comes of the first.
 fn features_agree(
-    fd: i32,
+    rt: &impl Print,
+    file: &mut impl Read,
     name: &[u8],
     head: &[u8],
     style: &[u8],
@@ -39,7 +41,7 @@ fn features_agree(
 ) -> bool {
     let mut same = true;
     for _ in 0..line::number(head, 29, 31) {
-        same = feature::agrees(fd, name, head, style, slots, base, root) & same;
+        same = feature::agrees(rt, file, name, head, style, slots, base, root) & same;
     }
     same
 }
@@ -47,7 +49,8 @@ fn features_agree(
 // What the checker says of the tree whose names are resolved, and then what it comes to. A text that is
 // refused before its kinds are looked at is no case of this program.
 fn text_agrees(
-    fd: i32,
+    rt: &impl Print,
+    file: &mut impl Read,
     name: &[u8],
     head: &[u8],
     style: &[u8],
@@ -61,25 +64,34 @@ fn text_agrees(
         Judgement::Fine { root } => {
             resolve(scope(head), style, names, text, &mut slots);
             let verdict = check(&slots, plan, root, wanted(head), text.len());
-            answer::agrees(name, head, style, verdict)
-                & features_agree(fd, name, head, style, &slots, base, root)
+            answer::agrees(rt, name, head, style, verdict)
+                & features_agree(rt, file, name, head, style, &slots, base, root)
         }
-        Judgement::Refused(_) => report::malformed(name, head),
+        Judgement::Refused(_) => report::malformed(rt, name, head),
     }
 }
 
 // The expression lies at the end of the style's text.
-fn cut_agrees(fd: i32, name: &[u8], head: &[u8], style: &[u8], names: &Names, plan: &Plan) -> bool {
+fn cut_agrees(
+    rt: &impl Print,
+    file: &mut impl Read,
+    name: &[u8],
+    head: &[u8],
+    style: &[u8],
+    names: &Names,
+    plan: &Plan,
+) -> bool {
     let base = line::number(head, 5, 8) as usize;
     if base <= style.len() {
         let text = &style[base..];
-        return text_agrees(fd, name, head, style, text, names, plan, base);
+        return text_agrees(rt, file, name, head, style, text, names, plan, base);
     }
-    report::malformed(name, head)
+    report::malformed(rt, name, head)
 }
 
 pub(crate) fn agrees(
-    fd: i32,
+    rt: &impl Print,
+    file: &mut impl Read,
     name: &[u8],
     head: &[u8],
     style: &[u8],
@@ -88,7 +100,7 @@ pub(crate) fn agrees(
 ) -> bool {
     let end = line::number(head, 9, 12) as usize;
     if end <= style.len() {
-        return cut_agrees(fd, name, head, &style[0..end], names, plan);
+        return cut_agrees(rt, file, name, head, &style[0..end], names, plan);
     }
-    report::malformed(name, head)
+    report::malformed(rt, name, head)
 }

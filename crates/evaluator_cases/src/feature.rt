@@ -6,6 +6,7 @@ use evaluator::evaluate::evaluate;
 use number::bits::from_bits;
 use plan::layout::{COMPONENTS, FLOATS, Floats, SPAN, SPANS, Spans, UNDECLARED};
 use reports::{read, report};
+use std::io::Read;
 use value::apply::Outcome;
 
 const LINE: usize = 11;
@@ -34,16 +35,16 @@ fn put(line: &[u8], spans: &mut Spans, floats: &mut Floats) -> bool {
     false
 }
 
-fn read_part(fd: i32, spans: &mut Spans, floats: &mut Floats) -> bool {
+fn read_part(file: &mut impl Read, spans: &mut Spans, floats: &mut Floats) -> bool {
     let mut line = [0u8; PART];
-    let n = io::read_full(fd, &mut line);
+    let n = read::some(file, &mut line);
     put(&line[..n], spans, floats)
 }
 
 // Reads so many parts. A number that none is for stays Undefined.
-fn read_parts(fd: i32, count: u64, spans: &mut Spans, floats: &mut Floats) -> bool {
+fn read_parts(file: &mut impl Read, count: u64, spans: &mut Spans, floats: &mut Floats) -> bool {
     for _ in 0..count {
-        if !read_part(fd, spans, floats) {
+        if !read_part(file, spans, floats) {
             return false;
         }
     }
@@ -53,6 +54,7 @@ fn read_parts(fd: i32, count: u64, spans: &mut Spans, floats: &mut Floats) -> bo
 // ---- the outcome
 
 fn outcome_agrees(
+    rt: &impl Print,
     name: &[u8],
     head: &[u8],
     style: &[u8],
@@ -63,16 +65,17 @@ fn outcome_agrees(
     if values::agree(style, feature, wanted, outcome) {
         return true;
     }
-    report::text_difference(name, head, style);
-    report::text(feature);
-    report::text(b"\nwanted ");
-    report::text(wanted);
-    values::print(style, feature, outcome);
+    report::text_difference(rt, name, head, style);
+    report::text(rt, feature);
+    report::text(rt, b"\nwanted ");
+    report::text(rt, wanted);
+    values::print(rt, style, feature, outcome);
     false
 }
 
 fn read_outcome(
-    fd: i32,
+    rt: &impl Print,
+    file: &mut impl Read,
     name: &[u8],
     head: &[u8],
     style: &[u8],
@@ -80,15 +83,16 @@ fn read_outcome(
     wanted: &mut [u8],
     outcome: Outcome,
 ) -> bool {
-    if read::text(fd, wanted) {
-        return outcome_agrees(name, head, style, feature, wanted, outcome);
+    if read::text(file, wanted) {
+        return outcome_agrees(rt, name, head, style, feature, wanted, outcome);
     }
-    report::malformed(name, head)
+    report::malformed(rt, name, head)
 }
 
 // Lends the room for what is wanted.
 fn with_outcome(
-    fd: i32,
+    rt: &impl Print,
+    file: &mut impl Read,
     name: &[u8],
     head: &[u8],
     style: &[u8],
@@ -97,16 +101,26 @@ fn with_outcome(
     outcome: Outcome,
 ) -> bool {
     if length <= read::MOST {
-        let mut room = io::buffer();
-        return read_outcome(fd, name, head, style, feature, &mut room[..length], outcome);
+        let mut room = [0u8; read::MOST];
+        return read_outcome(
+            rt,
+            file,
+            name,
+            head,
+            style,
+            feature,
+            &mut room[..length],
+            outcome,
+        );
     }
-    report::malformed(name, head)
+    report::malformed(rt, name, head)
 }
 
 // ---- the feature
 
 fn values_agree(
-    fd: i32,
+    rt: &impl Print,
+    file: &mut impl Read,
     name: &[u8],
     head: &[u8],
     line: &[u8],
@@ -119,16 +133,17 @@ fn values_agree(
     let mut spans = [0usize; SPANS];
     let mut floats = [0.0f64; FLOATS];
     let count = line::number(line, 4, 6);
-    if read_parts(fd, count, &mut spans, &mut floats) {
+    if read_parts(file, count, &mut spans, &mut floats) {
         let outcome = evaluate(style, feature, slots, &spans, &floats, base, root);
         let length = line::number(line, 7, 10) as usize;
-        return with_outcome(fd, name, head, style, feature, length, outcome);
+        return with_outcome(rt, file, name, head, style, feature, length, outcome);
     }
-    report::malformed(name, line)
+    report::malformed(rt, name, line)
 }
 
 fn text_agrees(
-    fd: i32,
+    rt: &impl Print,
+    file: &mut impl Read,
     name: &[u8],
     head: &[u8],
     line: &[u8],
@@ -138,15 +153,18 @@ fn text_agrees(
     base: usize,
     root: usize,
 ) -> bool {
-    if read::text(fd, feature) {
-        return values_agree(fd, name, head, line, style, feature, slots, base, root);
+    if read::text(file, feature) {
+        return values_agree(
+            rt, file, name, head, line, style, feature, slots, base, root,
+        );
     }
-    report::malformed(name, line)
+    report::malformed(rt, name, line)
 }
 
 // Lends the room for the feature's text.
 fn line_agrees(
-    fd: i32,
+    rt: &impl Print,
+    file: &mut impl Read,
     name: &[u8],
     head: &[u8],
     line: &[u8],
@@ -158,16 +176,17 @@ fn line_agrees(
     let length = line::number(line, 0, 3) as usize;
     if line::fits(line, b"hhh hh hhh\n") {
         if length <= read::MOST {
-            let mut room = io::buffer();
+            let mut room = [0u8; read::MOST];
             let text = &mut room[..length];
-            return text_agrees(fd, name, head, line, style, text, slots, base, root);
+            return text_agrees(rt, file, name, head, line, style, text, slots, base, root);
         }
     }
-    report::malformed(name, line)
+    report::malformed(rt, name, line)
 }
 
 pub(crate) fn agrees(
-    fd: i32,
+    rt: &impl Print,
+    file: &mut impl Read,
     name: &[u8],
     head: &[u8],
     style: &[u8],
@@ -176,6 +195,6 @@ pub(crate) fn agrees(
     root: usize,
 ) -> bool {
     let mut line = [0u8; LINE];
-    let n = io::read_full(fd, &mut line);
-    line_agrees(fd, name, head, &line[..n], style, slots, base, root)
+    let n = read::some(file, &mut line);
+    line_agrees(rt, file, name, head, &line[..n], style, slots, base, root)
 }

@@ -14,11 +14,14 @@ mod values;
 use cases::tally;
 use cases::tally::{Outcome, Tally, sum};
 use reports::report;
+use std::fs::File;
+use std::io::Read;
+use std::rt::Files;
 
-fn count_cases(fd: i32, name: &[u8]) -> Tally {
+fn count_cases(rt: &impl Print, file: &mut impl Read, name: &[u8]) -> Tally {
     let mut t = tally::NONE;
     for _ in 0..tally::MOST_CASES {
-        let o = case::next(fd, name);
+        let o = case::next(rt, file, name);
         if let Outcome::End = o {
             return t;
         }
@@ -27,46 +30,47 @@ fn count_cases(fd: i32, name: &[u8]) -> Tally {
     t
 }
 
-fn run(name: &[u8]) -> Tally {
-    let fd = os::open_read(name);
-    if fd < 0 {
-        return report::missing(name);
+fn run(rt: &(impl Files + Print), path: &str) -> Tally {
+    let name = path.as_bytes();
+    match File::open(rt, path) {
+        Ok(mut file) => {
+            let t = count_cases(rt, &mut file, name);
+            report::counts(rt, name, t)
+        }
+        Err(_) => report::missing(rt, name),
     }
-    let t = count_cases(fd, name);
-    libc::close(fd);
-    report::counts(name, t)
 }
 
 // What single nodes are, and their places.
-fn nodes() -> Tally {
-    let mut t = run(b"examples");
-    t = sum(t, run(b"literals"));
-    t = sum(t, run(b"operators"));
-    t = sum(t, run(b"functions"));
-    t = sum(t, run(b"picks"));
-    sum(t, run(b"conditionals"))
+fn nodes(rt: &(impl Files + Print)) -> Tally {
+    let mut t = run(rt, "examples");
+    t = sum(t, run(rt, "literals"));
+    t = sum(t, run(rt, "operators"));
+    t = sum(t, run(rt, "functions"));
+    t = sum(t, run(rt, "picks"));
+    sum(t, run(rt, "conditionals"))
 }
 
 // How nodes stand together, and what they stand for.
-fn trees() -> Tally {
-    let mut t = run(b"results");
-    t = sum(t, run(b"orders"));
-    t = sum(t, run(b"lazy"));
-    t = sum(t, run(b"names"));
-    t = sum(t, run(b"strings"));
-    t = sum(t, run(b"numbers"));
-    sum(t, run(b"heights"))
+fn trees(rt: &(impl Files + Print)) -> Tally {
+    let mut t = run(rt, "results");
+    t = sum(t, run(rt, "orders"));
+    t = sum(t, run(rt, "lazy"));
+    t = sum(t, run(rt, "names"));
+    t = sum(t, run(rt, "strings"));
+    t = sum(t, run(rt, "numbers"));
+    sum(t, run(rt, "heights"))
 }
 
-fn random() -> Tally {
-    let mut t = run(b"fitting");
-    t = sum(t, run(b"damage"));
-    sum(t, run(b"random"))
+fn random(rt: &(impl Files + Print)) -> Tally {
+    let mut t = run(rt, "fitting");
+    t = sum(t, run(rt, "damage"));
+    sum(t, run(rt, "random"))
 }
 
-fn main() {
-    let mut t = nodes();
-    t = sum(t, trees());
-    t = sum(t, random());
-    report::counts(b"total", t);
+fn main(rt: HostRuntime) {
+    let mut t = nodes(&rt);
+    t = sum(t, trees(&rt));
+    t = sum(t, random(&rt));
+    report::counts(&rt, b"total", t);
 }

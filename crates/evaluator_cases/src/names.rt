@@ -5,6 +5,7 @@ use cases::line;
 use checker::property;
 use checker::property::packed;
 use plan::layout::{FIRST_DEFINE, Names, Plan, SETS, UNDECLARED};
+use std::io::Read;
 
 const LINE: usize = 16;
 
@@ -36,16 +37,16 @@ fn put(line: &[u8], names: &mut Names, plan: &mut Plan) -> bool {
     false
 }
 
-fn read_one(fd: i32, names: &mut Names, plan: &mut Plan) -> bool {
+fn read_one(file: &mut impl Read, names: &mut Names, plan: &mut Plan) -> bool {
     let mut line = [0u8; LINE];
-    let n = io::read_full(fd, &mut line);
+    let n = reports::read::some(file, &mut line);
     put(&line[..n], names, plan)
 }
 
 // Reads so many lines. A number that none is for keeps the empty name, which no variable has.
-pub(crate) fn read(fd: i32, count: u64, names: &mut Names, plan: &mut Plan) -> bool {
+pub(crate) fn read(file: &mut impl Read, count: u64, names: &mut Names, plan: &mut Plan) -> bool {
     for _ in 0..count {
-        if !read_one(fd, names, plan) {
+        if !read_one(file, names, plan) {
             return false;
         }
     }

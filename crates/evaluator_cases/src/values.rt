@@ -62,43 +62,43 @@ pub(crate) fn agree(style: &[u8], feature: &[u8], wanted: &[u8], outcome: Outcom
 
 // ---- printing
 
-fn print_part(text: &[u8], from: usize, to: usize) {
+fn print_part(rt: &impl Print, text: &[u8], from: usize, to: usize) {
     if from <= to {
         if to <= text.len() {
-            report::text(&text[from..to]);
+            report::text(rt, &text[from..to]);
         }
     }
 }
 
-fn print_string(style: &[u8], feature: &[u8], s: Span) {
+fn print_string(rt: &impl Print, style: &[u8], feature: &[u8], s: Span) {
     if s.literal {
-        print_part(style, s.start, s.end);
+        print_part(rt, style, s.start, s.end);
     } else {
-        print_part(feature, s.start, s.end);
+        print_part(rt, feature, s.start, s.end);
     }
 }
 
-fn print_patterns(v: Value) {
-    report::hex(b" ", pattern(v, 0), 16);
-    report::hex(b" ", pattern(v, 1), 16);
-    report::hex(b" ", pattern(v, 2), 16);
-    report::hex(b" ", pattern(v, 3), 16);
+fn print_patterns(rt: &impl Print, v: Value) {
+    report::hex(rt, b" ", pattern(v, 0), 16);
+    report::hex(rt, b" ", pattern(v, 1), 16);
+    report::hex(rt, b" ", pattern(v, 2), 16);
+    report::hex(rt, b" ", pattern(v, 3), 16);
 }
 
-fn print_value(style: &[u8], feature: &[u8], v: Value) {
-    report::text(&[kinds::digit(kind_of(v))]);
+fn print_value(rt: &impl Print, style: &[u8], feature: &[u8], v: Value) {
+    report::text(rt, &[kinds::digit(kind_of(v))]);
     match v {
-        Value::String(s) => print_string(style, feature, s),
-        _ => print_patterns(v),
+        Value::String(s) => print_string(rt, style, feature, s),
+        _ => print_patterns(rt, v),
     }
 }
 
 // What came, on a line of its own.
-pub(crate) fn print(style: &[u8], feature: &[u8], outcome: Outcome) {
-    report::text(b"\ngot ");
+pub(crate) fn print(rt: &impl Print, style: &[u8], feature: &[u8], outcome: Outcome) {
+    report::text(rt, b"\ngot ");
     match outcome {
-        Outcome::Fault => report::text(b"-"),
-        Outcome::Worked(v) => print_value(style, feature, v),
+        Outcome::Fault => report::text(rt, b"-"),
+        Outcome::Worked(v) => print_value(rt, style, feature, v),
     }
-    report::text(b"\n");
+    report::text(rt, b"\n");
 }

@@ -5,7 +5,7 @@ use reports::report;
 use style::check::Checked;
 
 // The number is 0 for none.
-#[derive(Drop)]
+#[derive(Clone, Copy)]
 pub(crate) struct Answer {
     pub number: u64,
     pub line: u64,
@@ -41,32 +41,44 @@ pub(crate) fn of_feature(feature: Feature) -> Answer {
     }
 }
 
-fn print(a: Answer) {
-    report::text(b"got");
-    report::hex(b" ", a.number, 1);
-    report::hex(b" ", a.line, 4);
-    report::hex(b" ", a.place, 5);
-    report::text(b"\n");
+fn print(rt: &impl Print, a: Answer) {
+    report::text(rt, b"got");
+    report::hex(rt, b" ", a.number, 1);
+    report::hex(rt, b" ", a.line, 4);
+    report::hex(rt, b" ", a.place, 5);
+    report::text(rt, b"\n");
 }
 
-pub(crate) fn head_agrees(name: &[u8], line: &[u8], head: &[u8], a: Answer) -> bool {
+pub(crate) fn head_agrees(
+    rt: &impl Print,
+    name: &[u8],
+    line: &[u8],
+    head: &[u8],
+    a: Answer,
+) -> bool {
     let same = (line::number(line, 10, 11) == a.number)
         & (line::number(line, 12, 16) == a.line)
         & (line::number(line, 17, 21) == a.place);
     if same {
         return true;
     }
-    report::text_difference(name, line, head);
-    print(a);
+    report::text_difference(rt, name, line, head);
+    print(rt, a);
     false
 }
 
-pub(crate) fn feature_agrees(name: &[u8], line: &[u8], feature: &[u8], a: Answer) -> bool {
+pub(crate) fn feature_agrees(
+    rt: &impl Print,
+    name: &[u8],
+    line: &[u8],
+    feature: &[u8],
+    a: Answer,
+) -> bool {
     let same = (line::number(line, 27, 28) == a.number) & (line::number(line, 29, 34) == a.place);
     if same {
         return true;
     }
-    report::text_difference(name, line, feature);
-    print(a);
+    report::text_difference(rt, name, line, feature);
+    print(rt, a);
     false
 }

@@ -7,6 +7,7 @@ use plan::layout::{EXPRESSIONS, Plan, ROW, ROWS};
 use plan::numbers::number_at;
 use printed::shown;
 use reports::{read, report};
+use std::io::Read;
 use syntax::judge::MOST_HEIGHT;
 
 const LINE: usize = 22;
@@ -27,33 +28,48 @@ fn row_agrees(found: &[u8], plan: &Plan) -> bool {
     false
 }
 
-fn place_agrees(name: &[u8], line: &[u8], head: &[u8], found: &[u8], plan: &Plan) -> bool {
+fn place_agrees(
+    rt: &impl Print,
+    name: &[u8],
+    line: &[u8],
+    head: &[u8],
+    found: &[u8],
+    plan: &Plan,
+) -> bool {
     if row_agrees(found, plan) {
         return true;
     }
-    report::text_difference(name, line, head);
-    report::text(b"another expression than ");
-    report::text(found);
+    report::text_difference(rt, name, line, head);
+    report::text(rt, b"another expression than ");
+    report::text(rt, found);
     false
 }
 
 // ---- its tree
 
-fn page_agrees(name: &[u8], line: &[u8], head: &[u8], tree: &[u8], shown: &[u8]) -> bool {
+fn page_agrees(
+    rt: &impl Print,
+    name: &[u8],
+    line: &[u8],
+    head: &[u8],
+    tree: &[u8],
+    shown: &[u8],
+) -> bool {
     if (shown.len() == tree.len()) & has_word(shown, 0, tree) {
         return true;
     }
-    report::text_difference(name, line, head);
-    report::text(b"wanted ");
-    report::text(tree);
-    report::text(b"\ngot ");
-    report::text(shown);
-    report::text(b"\n");
+    report::text_difference(rt, name, line, head);
+    report::text(rt, b"wanted ");
+    report::text(rt, tree);
+    report::text(rt, b"\ngot ");
+    report::text(rt, shown);
+    report::text(rt, b"\n");
     false
 }
 
 // The text of an expression and its slots.
 fn shown_agrees(
+    rt: &impl Print,
     name: &[u8],
     line: &[u8],
     head: &[u8],
@@ -65,15 +81,16 @@ fn shown_agrees(
     let mut page = [0u8; PAGE];
     let end = shown::tree(&mut page, 0, text, true, slots, root, MOST_HEIGHT);
     if end < PAGE {
-        return page_agrees(name, line, head, tree, &page[..end]);
+        return page_agrees(rt, name, line, head, tree, &page[..end]);
     }
-    report::text_difference(name, line, head);
-    report::text(b"the tree is too long\n");
+    report::text_difference(rt, name, line, head);
+    report::text(rt, b"the tree is too long\n");
     false
 }
 
 // An expression, by its places in the head.
 fn text_agrees(
+    rt: &impl Print,
     name: &[u8],
     line: &[u8],
     head: &[u8],
@@ -88,17 +105,18 @@ fn text_agrees(
         if to <= head.len() {
             if to <= slots.len() {
                 let text = &head[from..to];
-                return shown_agrees(name, line, head, text, &slots[from..to], root, tree);
+                return shown_agrees(rt, name, line, head, text, &slots[from..to], root, tree);
             }
         }
     }
-    report::malformed(name, found)
+    report::malformed(rt, name, found)
 }
 
 // ---- reading it
 
 fn tree_agrees(
-    fd: i32,
+    rt: &impl Print,
+    file: &mut impl Read,
     name: &[u8],
     line: &[u8],
     head: &[u8],
@@ -106,34 +124,60 @@ fn tree_agrees(
     found: &[u8],
     tree: &mut [u8],
 ) -> bool {
-    if read::text(fd, tree) {
-        return text_agrees(name, line, head, slots, found, tree);
+    if read::text(file, tree) {
+        return text_agrees(rt, name, line, head, slots, found, tree);
     }
-    report::malformed(name, found)
+    report::malformed(rt, name, found)
 }
 
 // Lends the room for the tree.
-fn with_tree(fd: i32, name: &[u8], line: &[u8], head: &[u8], slots: &[u16], found: &[u8]) -> bool {
+fn with_tree(
+    rt: &impl Print,
+    file: &mut impl Read,
+    name: &[u8],
+    line: &[u8],
+    head: &[u8],
+    slots: &[u16],
+    found: &[u8],
+) -> bool {
     let length = line::number(found, 17, 21) as usize;
     if line::fits(found, b"hh hhhh hhhh hhh hhhh\n") {
         if length <= rooms::TEXT {
             let mut tree = [0u8; rooms::TEXT];
-            return tree_agrees(fd, name, line, head, slots, found, &mut tree[..length]);
+            return tree_agrees(
+                rt,
+                file,
+                name,
+                line,
+                head,
+                slots,
+                found,
+                &mut tree[..length],
+            );
         }
     }
-    report::malformed(name, found)
+    report::malformed(rt, name, found)
 }
 
-fn one_agrees(fd: i32, name: &[u8], line: &[u8], head: &[u8], slots: &[u16], plan: &Plan) -> bool {
+fn one_agrees(
+    rt: &impl Print,
+    file: &mut impl Read,
+    name: &[u8],
+    line: &[u8],
+    head: &[u8],
+    slots: &[u16],
+    plan: &Plan,
+) -> bool {
     let mut found = [0u8; LINE];
-    let n = io::read_full(fd, &mut found);
-    place_agrees(name, line, head, &found[..n], plan)
-        & with_tree(fd, name, line, head, slots, &found[..n])
+    let n = read::some(file, &mut found);
+    place_agrees(rt, name, line, head, &found[..n], plan)
+        & with_tree(rt, file, name, line, head, slots, &found[..n])
 }
 
 // All of them are compared, whatever comes of the first.
 pub(crate) fn agree(
-    fd: i32,
+    rt: &impl Print,
+    file: &mut impl Read,
     name: &[u8],
     line: &[u8],
     head: &[u8],
@@ -142,7 +186,7 @@ pub(crate) fn agree(
 ) -> bool {
     let mut same = true;
     for _ in 0..line::number(line, 35, 37) {
-        same = one_agrees(fd, name, line, head, slots, plan) & same;
+        same = one_agrees(rt, file, name, line, head, slots, plan) & same;
     }
     same
 }

@@ -14,25 +14,28 @@ mod values;
 use cases::tally;
 use cases::tally::{Outcome, Tally, sum};
 use reports::report;
+use std::fs::File;
+use std::io::Read;
+use std::rt::Files;
 
 // What the cases of a file are.
-#[derive(Drop)]
+#[derive(Clone, Copy)]
 enum Cases {
     Heads,
     Features,
 }
 
-fn next(cases: Cases, fd: i32, name: &[u8]) -> Outcome {
+fn next(rt: &impl Print, cases: Cases, file: &mut impl Read, name: &[u8]) -> Outcome {
     match cases {
-        Cases::Heads => head_case::next(fd, name),
-        Cases::Features => feature_case::next(fd, name),
+        Cases::Heads => head_case::next(rt, file, name),
+        Cases::Features => feature_case::next(rt, file, name),
     }
 }
 
-fn count_cases(cases: Cases, fd: i32, name: &[u8]) -> Tally {
+fn count_cases(rt: &impl Print, cases: Cases, file: &mut impl Read, name: &[u8]) -> Tally {
     let mut t = tally::NONE;
     for _ in 0..tally::MOST_CASES {
-        let o = next(cases, fd, name);
+        let o = next(rt, cases, file, name);
         if let Outcome::End = o {
             return t;
         }
@@ -41,69 +44,70 @@ fn count_cases(cases: Cases, fd: i32, name: &[u8]) -> Tally {
     t
 }
 
-fn run(cases: Cases, name: &[u8]) -> Tally {
-    let fd = os::open_read(name);
-    if fd < 0 {
-        return report::missing(name);
+fn run(rt: &(impl Files + Print), cases: Cases, path: &str) -> Tally {
+    let name = path.as_bytes();
+    match File::open(rt, path) {
+        Ok(mut file) => {
+            let t = count_cases(rt, cases, &mut file, name);
+            report::counts(rt, name, t)
+        }
+        Err(_) => report::missing(rt, name),
     }
-    let t = count_cases(cases, fd, name);
-    libc::close(fd);
-    report::counts(name, t)
 }
 
-fn heads(name: &[u8]) -> Tally {
-    run(Cases::Heads, name)
+fn heads(rt: &(impl Files + Print), path: &str) -> Tally {
+    run(rt, Cases::Heads, path)
 }
 
-fn features(name: &[u8]) -> Tally {
-    run(Cases::Features, name)
+fn features(rt: &(impl Files + Print), path: &str) -> Tally {
+    run(rt, Cases::Features, path)
 }
 
 // What single lines of a head are.
-fn head_lines() -> Tally {
-    let mut t = heads(b"examples");
-    t = sum(t, heads(b"words"));
-    t = sum(t, heads(b"counts"));
-    t = sum(t, heads(b"names"));
-    t = sum(t, heads(b"types"));
-    t = sum(t, heads(b"orders"));
-    sum(t, heads(b"ends"))
+fn head_lines(rt: &(impl Files + Print)) -> Tally {
+    let mut t = heads(rt, "examples");
+    t = sum(t, heads(rt, "words"));
+    t = sum(t, heads(rt, "counts"));
+    t = sum(t, heads(rt, "names"));
+    t = sum(t, heads(rt, "types"));
+    t = sum(t, heads(rt, "orders"));
+    sum(t, heads(rt, "ends"))
 }
 
 // How the lines of a head stand together.
-fn whole_heads() -> Tally {
-    let mut t = heads(b"limits");
-    t = sum(t, heads(b"expressions"));
-    t = sum(t, heads(b"hiding"));
-    t = sum(t, heads(b"first"));
-    t = sum(t, heads(b"bytes"));
-    t = sum(t, heads(b"room"));
-    t = sum(t, heads(b"random"));
-    sum(t, heads(b"damaged"))
+fn whole_heads(rt: &(impl Files + Print)) -> Tally {
+    let mut t = heads(rt, "limits");
+    t = sum(t, heads(rt, "expressions"));
+    t = sum(t, heads(rt, "hiding"));
+    t = sum(t, heads(rt, "first"));
+    t = sum(t, heads(rt, "bytes"));
+    t = sum(t, heads(rt, "room"));
+    t = sum(t, heads(rt, "random"));
+    sum(t, heads(rt, "damaged"))
 }
 
 // What single fields of a feature are.
-fn fields() -> Tally {
-    let mut t = features(b"stated");
-    t = sum(t, features(b"fields"));
-    t = sum(t, features(b"numbers"));
-    t = sum(t, features(b"vectors"));
-    sum(t, features(b"strings"))
+fn fields(rt: &(impl Files + Print)) -> Tally {
+    let mut t = features(rt, "stated");
+    t = sum(t, features(rt, "fields"));
+    t = sum(t, features(rt, "numbers"));
+    t = sum(t, features(rt, "vectors"));
+    sum(t, features(rt, "strings"))
 }
 
 // How the fields of a feature stand together.
-fn whole_features() -> Tally {
-    let mut t = features(b"counted");
-    t = sum(t, features(b"lines"));
-    t = sum(t, features(b"sizes"));
-    t = sum(t, features(b"schemas"));
-    sum(t, features(b"spoilt"))
+fn whole_features(rt: &(impl Files + Print)) -> Tally {
+    let mut t = features(rt, "counted");
+    t = sum(t, features(rt, "lines"));
+    t = sum(t, features(rt, "sizes"));
+    t = sum(t, features(rt, "schemas"));
+    sum(t, features(rt, "spoilt"))
 }
 
-fn main() {
-    let mut t = head_lines();
-    t = sum(t, whole_heads());
-    t = sum(t, fields());
-    t = sum(t, whole_features());
-    report::counts(b"total", t);
+fn main(rt: HostRuntime) {
+    let mut t = head_lines(&rt);
+    t = sum(t, whole_heads(&rt));
+    t = sum(t, fields(&rt));
+    t = sum(t, whole_features(&rt));
+    report::counts(&rt, b"total", t);
 }

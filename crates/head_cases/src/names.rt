@@ -3,7 +3,8 @@
 use cases::line;
 use plan::layout::{Plan, SETS, UNDECLARED};
 use plan::numbers::number_at;
-use reports::report;
+use reports::{read, report};
+use std::io::Read;
 
 const LINE: usize = 16;
 
@@ -16,29 +17,51 @@ fn set_agrees(line: &[u8], plan: &Plan) -> bool {
     false
 }
 
-fn one_agrees(fd: i32, name: &[u8], line: &[u8], head: &[u8], plan: &Plan) -> bool {
+fn one_agrees(
+    rt: &impl Print,
+    file: &mut impl Read,
+    name: &[u8],
+    line: &[u8],
+    head: &[u8],
+    plan: &Plan,
+) -> bool {
     let mut found = [0u8; LINE];
-    let n = io::read_full(fd, &mut found);
+    let n = read::some(file, &mut found);
     if set_agrees(&found[..n], plan) {
         return true;
     }
-    report::text_difference(name, line, head);
-    report::text(b"another name than ");
-    report::text(&found[..n]);
+    report::text_difference(rt, name, line, head);
+    report::text(rt, b"another name than ");
+    report::text(rt, &found[..n]);
     false
 }
 
 // So many of them. All are compared, whatever comes of the first.
-fn some_agree(fd: i32, name: &[u8], line: &[u8], head: &[u8], plan: &Plan, count: u64) -> bool {
+fn some_agree(
+    rt: &impl Print,
+    file: &mut impl Read,
+    name: &[u8],
+    line: &[u8],
+    head: &[u8],
+    plan: &Plan,
+    count: u64,
+) -> bool {
     let mut same = true;
     for _ in 0..count {
-        same = one_agrees(fd, name, line, head, plan) & same;
+        same = one_agrees(rt, file, name, line, head, plan) & same;
     }
     same
 }
 
 // Those of properties, and then those of defines.
-pub(crate) fn agree(fd: i32, name: &[u8], line: &[u8], head: &[u8], plan: &Plan) -> bool {
-    some_agree(fd, name, line, head, plan, line::number(line, 22, 24))
-        & some_agree(fd, name, line, head, plan, line::number(line, 25, 27))
+pub(crate) fn agree(
+    rt: &impl Print,
+    file: &mut impl Read,
+    name: &[u8],
+    line: &[u8],
+    head: &[u8],
+    plan: &Plan,
+) -> bool {
+    some_agree(rt, file, name, line, head, plan, line::number(line, 22, 24))
+        & some_agree(rt, file, name, line, head, plan, line::number(line, 25, 27))
 }

@@ -24,21 +24,41 @@ fn hold(slots: &[u16], word: u16) -> bool {
     true
 }
 
-fn all_agree(name: &[u8], line: &[u8], head: &[u8], slots: &[u16], word: u16) -> bool {
+fn all_agree(
+    rt: &impl Print,
+    name: &[u8],
+    line: &[u8],
+    head: &[u8],
+    slots: &[u16],
+    word: u16,
+) -> bool {
     if hold(slots, word) {
         return true;
     }
-    report::text_difference(name, line, head);
-    report::text(b"slots are not as they should be\n");
+    report::text_difference(rt, name, line, head);
+    report::text(rt, b"slots are not as they should be\n");
     false
 }
 
-pub(crate) fn untouched(name: &[u8], line: &[u8], head: &[u8], slots: &[u16]) -> bool {
-    all_agree(name, line, head, slots, UNUSED)
+pub(crate) fn untouched(
+    rt: &impl Print,
+    name: &[u8],
+    line: &[u8],
+    head: &[u8],
+    slots: &[u16],
+) -> bool {
+    all_agree(rt, name, line, head, slots, UNUSED)
 }
 
 // Zero, save under 10, when it is untouched.
-pub(crate) fn agree(name: &[u8], line: &[u8], head: &[u8], slots: &[u16], number: u64) -> bool {
+pub(crate) fn agree(
+    rt: &impl Print,
+    name: &[u8],
+    line: &[u8],
+    head: &[u8],
+    slots: &[u16],
+    number: u64,
+) -> bool {
     let word = if number == 10 { UNUSED } else { 0 };
-    all_agree(name, line, head, slots, word)
+    all_agree(rt, name, line, head, slots, word)
 }

@@ -5,7 +5,8 @@ use evaluator::values::value_at;
 use kind::kind::{dimension, number};
 use number::bits::to_bits;
 use plan::layout::{Floats, Spans};
-use reports::report;
+use reports::{read, report};
+use std::io::Read;
 use value::value::{Span, Value, component, is_true, kind_of};
 
 const LINE: usize = 24;
@@ -42,7 +43,8 @@ fn value_agrees(part: &[u8], v: Value) -> bool {
 }
 
 fn one_agrees(
-    fd: i32,
+    rt: &impl Print,
+    file: &mut impl Read,
     name: &[u8],
     line: &[u8],
     feature: &[u8],
@@ -50,20 +52,21 @@ fn one_agrees(
     floats: &Floats,
 ) -> bool {
     let mut part = [0u8; LINE];
-    let n = io::read_full(fd, &mut part);
+    let n = read::some(file, &mut part);
     let property = line::number(&part[..n], 0, 2) as usize;
     if value_agrees(&part[..n], value_at(spans, floats, property)) {
         return true;
     }
-    report::text_difference(name, line, feature);
-    report::text(b"another value than ");
-    report::text(&part[..n]);
+    report::text_difference(rt, name, line, feature);
+    report::text(rt, b"another value than ");
+    report::text(rt, &part[..n]);
     false
 }
 
 // All of them are compared, whatever comes of the first.
 pub(crate) fn agree(
-    fd: i32,
+    rt: &impl Print,
+    file: &mut impl Read,
     name: &[u8],
     line: &[u8],
     feature: &[u8],
@@ -72,7 +75,7 @@ pub(crate) fn agree(
 ) -> bool {
     let mut same = true;
     for _ in 0..line::number(line, 35, 37) {
-        same = one_agrees(fd, name, line, feature, spans, floats) & same;
+        same = one_agrees(rt, file, name, line, feature, spans, floats) & same;
     }
     same
 }

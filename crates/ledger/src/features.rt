@@ -1,6 +1,8 @@
 // The lines of the features, each with its number.
 ghost use Rattle.std.specs.Prelude.{◌≤◌, length};
 
+use crate::input::Input;
+use crate::writer::Writer;
 use crate::{input, writer};
 use painter::given::given;
 use painter::print;
@@ -17,7 +19,7 @@ const MOST_BYTES: usize = 4096;
 const MOST_BLOCKS: u64 = 0x1_0000_0000_0000;
 
 // How far the lines of a block are done.
-#[derive(Drop)]
+#[derive(Clone, Copy)]
 struct Progress {
     // Where those begin that are left.
     pub at: usize,
@@ -50,6 +52,7 @@ fn line(
 
 // How many bytes wait with the next line behind the others.
 fn add(
+    writer: &mut Writer,
     head: &[u8],
     plan: &Plan,
     slots: &[u16],
@@ -62,7 +65,7 @@ fn add(
     requires { p.waiting ≤ length out.old }
     ensures { result ≤ length out.old }
 {
-    let at = writer::place(out, p.waiting);
+    let at = writer::place(writer, out, p.waiting);
     at + line(
         head,
         plan,
@@ -100,6 +103,7 @@ fn begin(block: &[u8], p: Progress) -> Progress
 
 // The lines that an LF ends.
 fn ended_lines(
+    writer: &mut Writer,
     head: &[u8],
     plan: &Plan,
     slots: &[u16],
@@ -121,7 +125,17 @@ fn ended_lines(
         if block.len() <= end {
             break;
         }
-        let waiting = add(head, plan, slots, &block[at..end], out, spans, floats, q);
+        let waiting = add(
+            writer,
+            head,
+            plan,
+            slots,
+            &block[at..end],
+            out,
+            spans,
+            floats,
+            q,
+        );
         q.at = end + 1;
         q.number += 1;
         q.waiting = waiting;
@@ -131,6 +145,7 @@ fn ended_lines(
 
 // The bytes behind the last LF as a line.
 fn last_line(
+    writer: &mut Writer,
     head: &[u8],
     plan: &Plan,
     slots: &[u16],
@@ -147,7 +162,17 @@ fn last_line(
     ensures waiting { result.waiting ≤ length out.old }
 {
     let at = p.at;
-    let waiting = add(head, plan, slots, &block[at..], out, spans, floats, p);
+    let waiting = add(
+        writer,
+        head,
+        plan,
+        slots,
+        &block[at..],
+        out,
+        spans,
+        floats,
+        p,
+    );
     Progress {
         at: block.len(),
         number: p.number + 1,
@@ -160,6 +185,7 @@ fn last_line(
 // The lines of a block. The last, which no LF ends, is one of them if the input ends with the block,
 // or if it is too long already.
 fn lines(
+    writer: &mut Writer,
     head: &[u8],
     plan: &Plan,
     slots: &[u16],
@@ -174,6 +200,7 @@ fn lines(
     ensures waiting { result.waiting ≤ length out.old }
 {
     let q = ended_lines(
+        writer,
         head,
         plan,
         slots,
@@ -186,7 +213,7 @@ fn lines(
     let left = block.len() - q.at;
     if q.number <= LAST {
         if (p.input_ends & (0 < left)) | (MOST_BYTES < left) {
-            return last_line(head, plan, slots, block, out, spans, floats, q);
+            return last_line(writer, head, plan, slots, block, out, spans, floats, q);
         }
     }
     q
@@ -195,6 +222,8 @@ fn lines(
 // The lines of all features, of which the block holds the first bytes already. Gives how many bytes
 // of the output wait.
 fn all_lines(
+    input: &mut Input,
+    writer: &mut Writer,
     head: &[u8],
     plan: &Plan,
     slots: &[u16],
@@ -216,11 +245,21 @@ fn all_lines(
         input_ends: false,
     };
     for _ in 0..MOST_BLOCKS {
-        let end = input::fill(block, kept);
+        let end = input::fill(input, block, kept);
         let input_ends = end < block.len();
         p.input_ends = input_ends;
-        p = lines(head, plan, slots, &block[..end], out, spans, floats, p);
-        if input_ends | (LAST < p.number) {
+        p = lines(
+            writer,
+            head,
+            plan,
+            slots,
+            &block[..end],
+            out,
+            spans,
+            floats,
+            p,
+        );
+        if input_ends | (LAST < p.number) | writer::has_failed(writer) {
             return p.waiting;
         }
         kept = input::keep(block, p.at);
@@ -230,6 +269,8 @@ fn all_lines(
 
 // The arrays for the values of a feature are lent to each in turn.
 pub(crate) fn print(
+    input: &mut Input,
+    writer: &mut Writer,
     head: &[u8],
     plan: &Plan,
     slots: &[u16],
@@ -241,6 +282,17 @@ pub(crate) fn print(
 {
     let mut spans = [0usize; SPANS];
     let mut floats = [0.0f64; FLOATS];
-    let waiting = all_lines(head, plan, slots, block, held, out, &mut spans, &mut floats);
-    writer::text(&out[..waiting]);
+    let waiting = all_lines(
+        input,
+        writer,
+        head,
+        plan,
+        slots,
+        block,
+        held,
+        out,
+        &mut spans,
+        &mut floats,
+    );
+    writer::text(writer, &out[..waiting]);
 }

@@ -1,23 +1,36 @@
 // Standard input, read in large blocks.
 ghost use Rattle.std.specs.Prelude.{◌≤◌, length};
 
-use libc::STDIN_FILENO;
+use std::io;
+use std::io::{Read, Stdin};
 
-fn read(room: &mut [u8]) -> usize
+// Standard input, and how reading it went. A read that fails is taken for its end.
+#[derive(Drop)]
+pub(crate) struct Input {
+    pub stdin: Stdin,
+    pub done: io::Result<()>,
+}
+
+fn read(input: &mut Input, room: &mut [u8]) -> usize
     ensures { result ≤ length room.old }
 {
-    let got = libc::read(STDIN_FILENO, room);
-    io::count(got, room)
+    match input.stdin.read(room) {
+        Ok(n) => n,
+        Err(e) => {
+            input.done = Err(e);
+            0
+        }
+    }
 }
 
 // Reads behind the bytes that the room holds already, until it is full or the input ends.
-pub(crate) fn fill(room: &mut [u8], held: usize) -> usize
+pub(crate) fn fill(input: &mut Input, room: &mut [u8], held: usize) -> usize
     requires { held ≤ length room.old }
     ensures { result ≤ length room.old }
 {
     let mut end = held;
     while end < room.len() {
-        let more = read(&mut room[end..]);
+        let more = read(input, &mut room[end..]);
         if more == 0 {
             return end;
         }

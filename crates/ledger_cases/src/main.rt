@@ -9,11 +9,14 @@ mod made;
 use cases::tally;
 use cases::tally::{Outcome, Tally, sum};
 use reports::report;
+use std::fs::File;
+use std::io::Read;
+use std::rt::Files;
 
-fn count_cases(fd: i32, name: &[u8]) -> Tally {
+fn count_cases(rt: &impl Print, file: &mut impl Read, name: &[u8]) -> Tally {
     let mut t = tally::NONE;
     for i in 0..tally::MOST_CASES {
-        let o = case::next(fd, name, i);
+        let o = case::next(rt, file, name, i);
         if let Outcome::End = o {
             return t;
         }
@@ -22,39 +25,40 @@ fn count_cases(fd: i32, name: &[u8]) -> Tally {
     t
 }
 
-fn run(name: &[u8]) -> Tally {
-    let fd = os::open_read(name);
-    if fd < 0 {
-        return report::missing(name);
+fn run(rt: &(impl Files + Print), path: &str) -> Tally {
+    let name = path.as_bytes();
+    match File::open(rt, path) {
+        Ok(mut file) => {
+            let t = count_cases(rt, &mut file, name);
+            report::counts(rt, name, t)
+        }
+        Err(_) => report::missing(rt, name),
     }
-    let t = count_cases(fd, name);
-    libc::close(fd);
-    report::counts(name, t)
 }
 
 // Styles, and what they work out.
-fn styles() -> Tally {
-    let mut t = run(b"sample");
-    t = sum(t, run(b"styles"));
-    t = sum(t, run(b"conditions"));
-    t = sum(t, run(b"defines"));
-    t = sum(t, run(b"colours"));
-    t = sum(t, run(b"strings"));
-    t = sum(t, run(b"vectors"));
-    sum(t, run(b"numbers"))
+fn styles(rt: &(impl Files + Print)) -> Tally {
+    let mut t = run(rt, "sample");
+    t = sum(t, run(rt, "styles"));
+    t = sum(t, run(rt, "conditions"));
+    t = sum(t, run(rt, "defines"));
+    t = sum(t, run(rt, "colours"));
+    t = sum(t, run(rt, "strings"));
+    t = sum(t, run(rt, "vectors"));
+    sum(t, run(rt, "numbers"))
 }
 
 // Inputs, right and wrong.
-fn inputs() -> Tally {
-    let mut t = run(b"heads");
-    t = sum(t, run(b"features"));
-    t = sum(t, run(b"ends"));
-    t = sum(t, run(b"sizes"));
-    t = sum(t, run(b"random"));
-    sum(t, run(b"damaged"))
+fn inputs(rt: &(impl Files + Print)) -> Tally {
+    let mut t = run(rt, "heads");
+    t = sum(t, run(rt, "features"));
+    t = sum(t, run(rt, "ends"));
+    t = sum(t, run(rt, "sizes"));
+    t = sum(t, run(rt, "random"));
+    sum(t, run(rt, "damaged"))
 }
 
-fn main() {
-    let t = styles();
-    report::counts(b"total", sum(t, inputs()));
+fn main(rt: HostRuntime) {
+    let t = styles(&rt);
+    report::counts(&rt, b"total", sum(t, inputs(&rt)));
 }

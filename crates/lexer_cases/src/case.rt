@@ -5,9 +5,10 @@ use crate::{classes, places, runs, stands, texts};
 use cases::tally::Outcome;
 use cases::{line, tally};
 use reports::{read, report};
+use std::io::Read;
 
 // What the cases of a file are about.
-#[derive(Drop)]
+#[derive(Clone, Copy)]
 pub(crate) enum Subject {
     Texts,
     Places,
@@ -40,42 +41,55 @@ fn is_well_formed(s: Subject, head: &[u8]) -> bool {
 }
 
 // Reads the text behind the line and compares what the lexer says of it.
-fn text_agrees(fd: i32, name: &[u8], s: Subject, head: &[u8], text: &mut [u8]) -> bool {
-    if !read::text(fd, text) {
-        return report::malformed(name, head);
+fn text_agrees(
+    rt: &impl Print,
+    file: &mut impl Read,
+    name: &[u8],
+    s: Subject,
+    head: &[u8],
+    text: &mut [u8],
+) -> bool {
+    if !read::text(file, text) {
+        return report::malformed(rt, name, head);
     }
     match s {
-        Subject::Texts => texts::agrees(fd, name, head, text),
-        Subject::Places => places::agrees(fd, name, head, text),
-        Subject::Runs => runs::agrees(name, head, text),
-        Subject::Stands => stands::agrees(fd, name, head, text),
-        Subject::Classes => classes::agrees(name, head, text),
+        Subject::Texts => texts::agrees(rt, file, name, head, text),
+        Subject::Places => places::agrees(rt, file, name, head, text),
+        Subject::Runs => runs::agrees(rt, name, head, text),
+        Subject::Stands => stands::agrees(rt, file, name, head, text),
+        Subject::Classes => classes::agrees(rt, name, head, text),
     }
 }
 
 // A line that is malformed does not agree.
-fn agrees(fd: i32, name: &[u8], s: Subject, head: &[u8]) -> bool {
+fn agrees(rt: &impl Print, file: &mut impl Read, name: &[u8], s: Subject, head: &[u8]) -> bool {
     let length = line::number(head, 0, 3) as usize;
     if is_well_formed(s, head) {
         if length <= read::MOST {
-            let mut room = io::buffer();
-            return text_agrees(fd, name, s, head, &mut room[..length]);
+            let mut room = [0u8; read::MOST];
+            return text_agrees(rt, file, name, s, head, &mut room[..length]);
         }
     }
-    report::malformed(name, head)
+    report::malformed(rt, name, head)
 }
 
 // Nothing more to read is the end.
-fn read_case(fd: i32, name: &[u8], s: Subject, head: &mut [u8]) -> Outcome {
-    let n = io::read_full(fd, head);
+fn read_case(
+    rt: &impl Print,
+    file: &mut impl Read,
+    name: &[u8],
+    s: Subject,
+    head: &mut [u8],
+) -> Outcome {
+    let n = read::some(file, head);
     if n == 0 {
         return Outcome::End;
     }
-    tally::compared(agrees(fd, name, s, &head[..n]))
+    tally::compared(agrees(rt, file, name, s, &head[..n]))
 }
 
-pub(crate) fn next(fd: i32, name: &[u8], s: Subject) -> Outcome {
+pub(crate) fn next(rt: &impl Print, file: &mut impl Read, name: &[u8], s: Subject) -> Outcome {
     let size = width(s);
-    let mut room = io::buffer();
-    read_case(fd, name, s, &mut room[..size])
+    let mut room = [0u8; read::MOST];
+    read_case(rt, file, name, s, &mut room[..size])
 }

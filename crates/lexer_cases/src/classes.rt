@@ -6,22 +6,29 @@ use lexer::bytes;
 use reports::report;
 
 // Whether a class has the byte exactly if the line has 1 at the class's place.
-fn class_agrees(name: &[u8], head: &[u8], text: &[u8], at: usize, has: bool) -> bool {
+fn class_agrees(
+    rt: &impl Print,
+    name: &[u8],
+    head: &[u8],
+    text: &[u8],
+    at: usize,
+    has: bool,
+) -> bool {
     if has == (line::byte(head, at) == b'1') {
         return true;
     }
-    difference::front(name, text, at);
-    report::text(b" differs\n");
+    difference::front(rt, name, text, at);
+    report::text(rt, b" differs\n");
     false
 }
 
-pub(crate) fn agrees(name: &[u8], head: &[u8], text: &[u8]) -> bool {
+pub(crate) fn agrees(rt: &impl Print, name: &[u8], head: &[u8], text: &[u8]) -> bool {
     let b = line::byte(text, 0);
-    class_agrees(name, head, text, 4, bytes::is_space(b))
-        & class_agrees(name, head, text, 6, bytes::is_letter(b))
-        & class_agrees(name, head, text, 8, bytes::is_hex_digit(b))
-        & class_agrees(name, head, text, 10, bytes::is_name_byte(b))
-        & class_agrees(name, head, text, 12, bytes::is_word_start(b))
-        & class_agrees(name, head, text, 14, bytes::is_quote(b))
-        & class_agrees(name, head, text, 16, bytes::is_name_length(b as usize))
+    class_agrees(rt, name, head, text, 4, bytes::is_space(b))
+        & class_agrees(rt, name, head, text, 6, bytes::is_letter(b))
+        & class_agrees(rt, name, head, text, 8, bytes::is_hex_digit(b))
+        & class_agrees(rt, name, head, text, 10, bytes::is_name_byte(b))
+        & class_agrees(rt, name, head, text, 12, bytes::is_word_start(b))
+        & class_agrees(rt, name, head, text, 14, bytes::is_quote(b))
+        & class_agrees(rt, name, head, text, 16, bytes::is_name_length(b as usize))
 }

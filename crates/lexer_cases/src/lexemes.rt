@@ -4,10 +4,11 @@ use cases::line;
 use lexer::token;
 use lexer::token::{Lexeme, Token};
 use reports::report;
+use std::io::Read;
 
 // The kind: N number, S string, V variable, W word, P punctuator, B bad, E end, and ? for a line
 // that is malformed. The value: a number's digits after the point, or a place in a list.
-#[derive(Drop)]
+#[derive(Clone, Copy)]
 pub(crate) struct Answer {
     pub(crate) kind: u8,
     pub(crate) value: u64,
@@ -88,36 +89,42 @@ fn of_line(text: &[u8]) -> Answer {
     )
 }
 
-pub(crate) fn read(fd: i32) -> Answer {
+pub(crate) fn read(file: &mut impl Read) -> Answer {
     let mut buffer = [0u8; LINE];
-    let n = io::read_full(fd, &mut buffer);
+    let n = reports::read::some(file, &mut buffer);
     let wanted = of_line(&buffer[..n]);
     if wanted.kind != b'N' {
         return wanted;
     }
     let mut digits = [0u8; DIGITS_LINE];
-    let m = io::read_full(fd, &mut digits);
+    let m = reports::read::some(file, &mut digits);
     with_digits(wanted, &digits[..m])
 }
 
-fn print(label: &[u8], a: Answer) {
-    report::text(label);
-    report::text(&[a.kind]);
-    report::decimal(b" ", a.value);
-    report::decimal(b" ", a.at);
-    report::decimal(b" ", a.end);
-    report::decimal(b" ", a.digits);
+fn print(rt: &impl Print, label: &[u8], a: Answer) {
+    report::text(rt, label);
+    report::text(rt, &[a.kind]);
+    report::decimal(rt, b" ", a.value);
+    report::decimal(rt, b" ", a.at);
+    report::decimal(rt, b" ", a.end);
+    report::decimal(rt, b" ", a.digits);
 }
 
 // Whether the text has at a place what a file expects.
-pub(crate) fn agrees(name: &[u8], text: &[u8], from: usize, wanted: Answer) -> bool {
+pub(crate) fn agrees(
+    rt: &impl Print,
+    name: &[u8],
+    text: &[u8],
+    from: usize,
+    wanted: Answer,
+) -> bool {
     let got = found(text, from);
     if is_same(got, wanted) {
         return true;
     }
-    difference::front(name, text, from);
-    print(b" expected ", wanted);
-    print(b" got ", got);
-    report::text(b"\n");
+    difference::front(rt, name, text, from);
+    print(rt, b" expected ", wanted);
+    print(rt, b" got ", got);
+    report::text(rt, b"\n");
     false
 }

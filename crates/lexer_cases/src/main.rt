@@ -15,11 +15,14 @@ use case::Subject;
 use cases::tally;
 use cases::tally::{Outcome, Tally, sum};
 use reports::report;
+use std::fs::File;
+use std::io::Read;
+use std::rt::Files;
 
-fn count_cases(fd: i32, name: &[u8], s: Subject) -> Tally {
+fn count_cases(rt: &impl Print, file: &mut impl Read, name: &[u8], s: Subject) -> Tally {
     let mut t = tally::NONE;
     for _ in 0..tally::MOST_CASES {
-        let o = case::next(fd, name, s);
+        let o = case::next(rt, file, name, s);
         if let Outcome::End = o {
             return t;
         }
@@ -28,41 +31,42 @@ fn count_cases(fd: i32, name: &[u8], s: Subject) -> Tally {
     t
 }
 
-fn run(name: &[u8], s: Subject) -> Tally {
-    let fd = os::open_read(name);
-    if fd < 0 {
-        return report::missing(name);
+fn run(rt: &(impl Files + Print), path: &str, s: Subject) -> Tally {
+    let name = path.as_bytes();
+    match File::open(rt, path) {
+        Ok(mut file) => {
+            let t = count_cases(rt, &mut file, name, s);
+            report::counts(rt, name, t)
+        }
+        Err(_) => report::missing(rt, name),
     }
-    let t = count_cases(fd, name, s);
-    libc::close(fd);
-    report::counts(name, t)
 }
 
-fn single_tokens() -> Tally {
-    let mut t = run(b"punctuators", Subject::Texts);
-    t = sum(t, run(b"bytes", Subject::Texts));
-    t = sum(t, run(b"numbers", Subject::Texts));
-    t = sum(t, run(b"variables", Subject::Texts));
-    t = sum(t, run(b"words", Subject::Texts));
-    sum(t, run(b"strings", Subject::Texts))
+fn single_tokens(rt: &(impl Files + Print)) -> Tally {
+    let mut t = run(rt, "punctuators", Subject::Texts);
+    t = sum(t, run(rt, "bytes", Subject::Texts));
+    t = sum(t, run(rt, "numbers", Subject::Texts));
+    t = sum(t, run(rt, "variables", Subject::Texts));
+    t = sum(t, run(rt, "words", Subject::Texts));
+    sum(t, run(rt, "strings", Subject::Texts))
 }
 
-fn whole_texts() -> Tally {
-    let mut t = run(b"brackets", Subject::Texts);
-    t = sum(t, run(b"spaces", Subject::Texts));
-    t = sum(t, run(b"examples", Subject::Texts));
-    t = sum(t, run(b"random", Subject::Texts));
-    sum(t, run(b"long", Subject::Texts))
+fn whole_texts(rt: &(impl Files + Print)) -> Tally {
+    let mut t = run(rt, "brackets", Subject::Texts);
+    t = sum(t, run(rt, "spaces", Subject::Texts));
+    t = sum(t, run(rt, "examples", Subject::Texts));
+    t = sum(t, run(rt, "random", Subject::Texts));
+    sum(t, run(rt, "long", Subject::Texts))
 }
 
-fn parts() -> Tally {
-    let mut t = run(b"places", Subject::Places);
-    t = sum(t, run(b"runs", Subject::Runs));
-    t = sum(t, run(b"stands", Subject::Stands));
-    sum(t, run(b"classes", Subject::Classes))
+fn parts(rt: &(impl Files + Print)) -> Tally {
+    let mut t = run(rt, "places", Subject::Places);
+    t = sum(t, run(rt, "runs", Subject::Runs));
+    t = sum(t, run(rt, "stands", Subject::Stands));
+    sum(t, run(rt, "classes", Subject::Classes))
 }
 
-fn main() {
-    let t = sum(sum(single_tokens(), whole_texts()), parts());
-    report::counts(b"total", t);
+fn main(rt: HostRuntime) {
+    let t = sum(sum(single_tokens(&rt), whole_texts(&rt)), parts(&rt));
+    report::counts(&rt, b"total", t);
 }

@@ -16,7 +16,7 @@ fn class(kind: u8, q: u8) -> Class {
     }
 }
 
-pub(crate) fn agrees(name: &[u8], head: &[u8], text: &[u8]) -> bool {
+pub(crate) fn agrees(rt: &impl Print, name: &[u8], head: &[u8], text: &[u8]) -> bool {
     let at = line::number(head, 4, 20) as usize;
     let q = line::low_byte(line::number(head, 23, 25));
     let wanted = line::number(head, 26, 42);
@@ -24,7 +24,7 @@ pub(crate) fn agrees(name: &[u8], head: &[u8], text: &[u8]) -> bool {
     if got == wanted {
         return true;
     }
-    difference::front(name, text, at);
-    difference::answers(wanted, got);
+    difference::front(rt, name, text, at);
+    difference::answers(rt, wanted, got);
     false
 }

@@ -3,6 +3,7 @@ use crate::difference;
 use cases::line;
 use lexer::bytes;
 use reports::{read, report};
+use std::io::Read;
 
 fn one_if(b: bool) -> u64 {
     if b { 1 } else { 0 }
@@ -22,33 +23,46 @@ fn answer(text: &[u8], at: usize, word: &[u8]) -> u64 {
     }
 }
 
-fn word_agrees(name: &[u8], head: &[u8], text: &[u8], word: &[u8]) -> bool {
+fn word_agrees(rt: &impl Print, name: &[u8], head: &[u8], text: &[u8], word: &[u8]) -> bool {
     let at = line::number(head, 4, 20) as usize;
     let wanted = line::number(head, 25, 26);
     let got = answer(text, at, word);
     if got == wanted {
         return true;
     }
-    difference::front(name, text, at);
-    report::text(b" word ");
-    report::text(word);
-    difference::answers(wanted, got);
+    difference::front(rt, name, text, at);
+    report::text(rt, b" word ");
+    report::text(rt, word);
+    difference::answers(rt, wanted, got);
     false
 }
 
 // The word stands behind the text.
-fn read_word(fd: i32, name: &[u8], head: &[u8], text: &[u8], word: &mut [u8]) -> bool {
-    if read::text(fd, word) {
-        return word_agrees(name, head, text, word);
+fn read_word(
+    rt: &impl Print,
+    file: &mut impl Read,
+    name: &[u8],
+    head: &[u8],
+    text: &[u8],
+    word: &mut [u8],
+) -> bool {
+    if read::text(file, word) {
+        return word_agrees(rt, name, head, text, word);
     }
-    report::malformed(name, head)
+    report::malformed(rt, name, head)
 }
 
-pub(crate) fn agrees(fd: i32, name: &[u8], head: &[u8], text: &[u8]) -> bool {
+pub(crate) fn agrees(
+    rt: &impl Print,
+    file: &mut impl Read,
+    name: &[u8],
+    head: &[u8],
+    text: &[u8],
+) -> bool {
     let size = line::number(head, 21, 24) as usize;
     if size <= read::MOST {
-        let mut room = io::buffer();
-        return read_word(fd, name, head, text, &mut room[..size]);
+        let mut room = [0u8; read::MOST];
+        return read_word(rt, file, name, head, text, &mut room[..size]);
     }
-    report::malformed(name, head)
+    report::malformed(rt, name, head)
 }

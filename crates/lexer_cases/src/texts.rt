@@ -4,9 +4,10 @@ use cases::line;
 use lexer::scan;
 use lexer::scan::Verdict;
 use reports::report;
+use std::io::Read;
 
 // A refusal's number and place; both 0 for a text that is fine.
-#[derive(Drop)]
+#[derive(Clone, Copy)]
 struct Answer {
     number: u64,
     place: u64,
@@ -25,28 +26,34 @@ fn found(text: &[u8]) -> Answer {
     }
 }
 
-fn verdict_agrees(name: &[u8], text: &[u8], wanted: Answer) -> bool {
+fn verdict_agrees(rt: &impl Print, name: &[u8], text: &[u8], wanted: Answer) -> bool {
     let got = found(text);
     if (got.number == wanted.number) & (got.place == wanted.place) {
         return true;
     }
-    difference::front(name, text, 0);
-    report::decimal(b" expected refusal ", wanted.number);
-    report::decimal(b" at ", wanted.place);
-    report::decimal(b" got ", got.number);
-    report::decimal(b" at ", got.place);
-    report::text(b"\n");
+    difference::front(rt, name, text, 0);
+    report::decimal(rt, b" expected refusal ", wanted.number);
+    report::decimal(rt, b" at ", wanted.place);
+    report::decimal(rt, b" got ", got.number);
+    report::decimal(rt, b" at ", got.place);
+    report::text(rt, b"\n");
     false
 }
 
 // All expected tokens are read, also behind one that differs, so that the next case is found.
-fn tokens_agree(fd: i32, name: &[u8], text: &[u8], count: u64) -> bool {
+fn tokens_agree(
+    rt: &impl Print,
+    file: &mut impl Read,
+    name: &[u8],
+    text: &[u8],
+    count: u64,
+) -> bool {
     let mut same = true;
     let mut from: usize = 0;
     let mut left = count;
     while 0 < left {
-        let wanted = lexemes::read(fd);
-        if !lexemes::agrees(name, text, from, wanted) {
+        let wanted = lexemes::read(file);
+        if !lexemes::agrees(rt, name, text, from, wanted) {
             same = false;
         }
         from = wanted.end as usize;
@@ -55,11 +62,17 @@ fn tokens_agree(fd: i32, name: &[u8], text: &[u8], count: u64) -> bool {
     same
 }
 
-pub(crate) fn agrees(fd: i32, name: &[u8], head: &[u8], text: &[u8]) -> bool {
-    let tokens = tokens_agree(fd, name, text, line::number(head, 4, 7));
+pub(crate) fn agrees(
+    rt: &impl Print,
+    file: &mut impl Read,
+    name: &[u8],
+    head: &[u8],
+    text: &[u8],
+) -> bool {
+    let tokens = tokens_agree(rt, file, name, text, line::number(head, 4, 7));
     let wanted = Answer {
         number: line::number(head, 8, 9),
         place: line::number(head, 10, 13),
     };
-    verdict_agrees(name, text, wanted) & tokens
+    verdict_agrees(rt, name, text, wanted) & tokens
 }

@@ -6,7 +6,7 @@ use number::decimal::Decimal;
 use reports::report;
 
 // What stands at a place: 0 nothing, 1 a number, 2 a number that is too long.
-#[derive(Drop)]
+#[derive(Clone, Copy)]
 pub(crate) struct Answer {
     pub(crate) kind: u64,
     pub(crate) end: u64,
@@ -83,40 +83,40 @@ fn expected(text: &[u8]) -> Answer {
     }
 }
 
-fn print(a: Answer) {
-    report::hex(b" ", a.kind, 16);
-    report::hex(b" ", a.end, 16);
-    report::hex(b" ", a.digits, 16);
-    report::hex(b" ", a.places, 16);
-    report::hex(b" ", a.value, 16);
-    report::hex(b" ", a.negated, 16);
+fn print(rt: &impl Print, a: Answer) {
+    report::hex(rt, b" ", a.kind, 16);
+    report::hex(rt, b" ", a.end, 16);
+    report::hex(rt, b" ", a.digits, 16);
+    report::hex(rt, b" ", a.places, 16);
+    report::hex(rt, b" ", a.value, 16);
+    report::hex(rt, b" ", a.negated, 16);
 }
 
 // Whether a case agrees. A line that is malformed does not.
-pub(crate) fn is_right(name: &[u8], text: &[u8]) -> bool {
+pub(crate) fn is_right(rt: &impl Print, name: &[u8], text: &[u8]) -> bool {
     let length = line::number(text, 41, 57) as usize;
     let at = line::number(text, 58, 74);
     if is_well_formed(text) & (length <= TEXT) {
         if length <= text.len() {
-            return agrees(name, &text[0..length], at, expected(text));
+            return agrees(rt, name, &text[0..length], at, expected(text));
         }
     }
-    report::malformed(name, text)
+    report::malformed(rt, name, text)
 }
 
-fn agrees(name: &[u8], text: &[u8], at: u64, wanted: Answer) -> bool {
+fn agrees(rt: &impl Print, name: &[u8], text: &[u8], at: u64, wanted: Answer) -> bool {
     let got = found(text, at as usize);
     if is_same(got, wanted) {
         return true;
     }
-    report::text(name);
-    report::text(b" text ");
-    report::text(text);
-    report::hex(b" at ", at, 16);
-    report::text(b" expected");
-    print(wanted);
-    report::text(b" got");
-    print(got);
-    report::text(b"\n");
+    report::text(rt, name);
+    report::text(rt, b" text ");
+    report::text(rt, text);
+    report::hex(rt, b" at ", at, 16);
+    report::text(rt, b" expected");
+    print(rt, wanted);
+    report::text(rt, b" got");
+    print(rt, got);
+    report::text(rt, b"\n");
     false
 }

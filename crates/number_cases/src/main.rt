@@ -8,38 +8,41 @@ mod numbers;
 use cases::tally;
 use cases::tally::{Outcome, Tally, compared, sum};
 use numbers::Function;
-use reports::report;
+use reports::{read, report};
+use std::fs::File;
+use std::io::Read;
+use std::rt::Files;
 
-fn next_number(fd: i32, name: &[u8], f: Function) -> Outcome {
+fn next_number(rt: &impl Print, file: &mut impl Read, name: &[u8], f: Function) -> Outcome {
     let mut buffer = [0u8; numbers::LINE];
-    let n = io::read_full(fd, &mut buffer);
+    let n = read::some(file, &mut buffer);
     if n == 0 {
         return Outcome::End;
     }
-    compared(numbers::is_right(name, f, &buffer[..n]))
+    compared(numbers::is_right(rt, name, f, &buffer[..n]))
 }
 
-fn next_literal(fd: i32, name: &[u8]) -> Outcome {
+fn next_literal(rt: &impl Print, file: &mut impl Read, name: &[u8]) -> Outcome {
     let mut buffer = [0u8; literals::LINE];
-    let n = io::read_full(fd, &mut buffer);
+    let n = read::some(file, &mut buffer);
     if n == 0 {
         return Outcome::End;
     }
-    compared(literals::is_right(name, &buffer[..n]))
+    compared(literals::is_right(rt, name, &buffer[..n]))
 }
 
-fn next(fd: i32, name: &[u8], f: Function) -> Outcome {
+fn next(rt: &impl Print, file: &mut impl Read, name: &[u8], f: Function) -> Outcome {
     if let Function::Read = f {
-        next_literal(fd, name)
+        next_literal(rt, file, name)
     } else {
-        next_number(fd, name, f)
+        next_number(rt, file, name, f)
     }
 }
 
-fn count_cases(fd: i32, name: &[u8], f: Function) -> Tally {
+fn count_cases(rt: &impl Print, file: &mut impl Read, name: &[u8], f: Function) -> Tally {
     let mut t = tally::NONE;
     for _ in 0..tally::MOST_CASES {
-        let o = next(fd, name, f);
+        let o = next(rt, file, name, f);
         if let Outcome::End = o {
             return t;
         }
@@ -48,42 +51,43 @@ fn count_cases(fd: i32, name: &[u8], f: Function) -> Tally {
     t
 }
 
-fn run(name: &[u8], f: Function) -> Tally {
-    let fd = os::open_read(name);
-    if fd < 0 {
-        return report::missing(name);
+fn run(rt: &(impl Files + Print), path: &str, f: Function) -> Tally {
+    let name = path.as_bytes();
+    match File::open(rt, path) {
+        Ok(mut file) => {
+            let t = count_cases(rt, &mut file, name, f);
+            report::counts(rt, name, t)
+        }
+        Err(_) => report::missing(rt, name),
     }
-    let t = count_cases(fd, name, f);
-    libc::close(fd);
-    report::counts(name, t)
 }
 
-fn roundings() -> Tally {
-    let mut t = run(b"floor", Function::Floor);
-    t = sum(t, run(b"ceil", Function::Ceil));
-    t = sum(t, run(b"round", Function::Round));
-    sum(t, run(b"fract", Function::Fract))
+fn roundings(rt: &(impl Files + Print)) -> Tally {
+    let mut t = run(rt, "floor", Function::Floor);
+    t = sum(t, run(rt, "ceil", Function::Ceil));
+    t = sum(t, run(rt, "round", Function::Round));
+    sum(t, run(rt, "fract", Function::Fract))
 }
 
-fn arithmetic() -> Tally {
-    let mut t = run(b"abs", Function::Abs);
-    t = sum(t, run(b"sign", Function::Sign));
-    t = sum(t, run(b"min", Function::Min));
-    t = sum(t, run(b"max", Function::Max));
-    t = sum(t, run(b"clamp", Function::Clamp));
-    t = sum(t, run(b"mix", Function::Mix));
-    sum(t, run(b"remainder", Function::Remainder))
+fn arithmetic(rt: &(impl Files + Print)) -> Tally {
+    let mut t = run(rt, "abs", Function::Abs);
+    t = sum(t, run(rt, "sign", Function::Sign));
+    t = sum(t, run(rt, "min", Function::Min));
+    t = sum(t, run(rt, "max", Function::Max));
+    t = sum(t, run(rt, "clamp", Function::Clamp));
+    t = sum(t, run(rt, "mix", Function::Mix));
+    sum(t, run(rt, "remainder", Function::Remainder))
 }
 
-fn others() -> Tally {
-    let mut t = run(b"component", Function::Component);
-    t = sum(t, run(b"byte", Function::Byte));
-    t = sum(t, run(b"bits", Function::Bits));
-    t = sum(t, run(b"value", Function::Value));
-    sum(t, run(b"literals", Function::Read))
+fn others(rt: &(impl Files + Print)) -> Tally {
+    let mut t = run(rt, "component", Function::Component);
+    t = sum(t, run(rt, "byte", Function::Byte));
+    t = sum(t, run(rt, "bits", Function::Bits));
+    t = sum(t, run(rt, "value", Function::Value));
+    sum(t, run(rt, "literals", Function::Read))
 }
 
-fn main() {
-    let t = sum(sum(roundings(), arithmetic()), others());
-    report::counts(b"total", t);
+fn main(rt: HostRuntime) {
+    let t = sum(sum(roundings(&rt), arithmetic(&rt)), others(&rt));
+    report::counts(&rt, b"total", t);
 }

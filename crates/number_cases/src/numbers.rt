@@ -6,7 +6,7 @@ use reports::report;
 
 pub(crate) const LINE: usize = 68;
 
-#[derive(Drop)]
+#[derive(Clone, Copy)]
 pub(crate) enum Function {
     Floor,
     Ceil,
@@ -26,7 +26,7 @@ pub(crate) enum Function {
     Read,
 }
 
-#[derive(Drop)]
+#[derive(Clone, Copy)]
 pub(crate) struct Case {
     pub(crate) x: u64,
     pub(crate) y: u64,
@@ -69,12 +69,13 @@ fn byte(x: f64) -> u64 {
 }
 
 // Whether a case agrees. A line that is malformed does not.
-pub(crate) fn is_right(name: &[u8], f: Function, text: &[u8]) -> bool {
+pub(crate) fn is_right(rt: &impl Print, name: &[u8], f: Function, text: &[u8]) -> bool {
     let form = b"hhhhhhhhhhhhhhhh hhhhhhhhhhhhhhhh hhhhhhhhhhhhhhhh hhhhhhhhhhhhhhhh\n";
     if !line::fits(text, form) {
-        return report::malformed(name, text);
+        return report::malformed(rt, name, text);
     }
     agrees(
+        rt,
         name,
         f,
         Case {
@@ -86,17 +87,17 @@ pub(crate) fn is_right(name: &[u8], f: Function, text: &[u8]) -> bool {
     )
 }
 
-fn agrees(name: &[u8], f: Function, c: Case) -> bool {
+fn agrees(rt: &impl Print, name: &[u8], f: Function, c: Case) -> bool {
     let got = worked_out(f, c.x, c.y, c.z);
     if got == c.result {
         return true;
     }
-    report::text(name);
-    report::hex(b" arguments ", c.x, 16);
-    report::hex(b" ", c.y, 16);
-    report::hex(b" ", c.z, 16);
-    report::hex(b" expected ", c.result, 16);
-    report::hex(b" got ", got, 16);
-    report::text(b"\n");
+    report::text(rt, name);
+    report::hex(rt, b" arguments ", c.x, 16);
+    report::hex(rt, b" ", c.y, 16);
+    report::hex(rt, b" ", c.z, 16);
+    report::hex(rt, b" expected ", c.result, 16);
+    report::hex(rt, b" got ", got, 16);
+    report::text(rt, b"\n");
     false
 }

@@ -1,23 +1,41 @@
 // Texts stand behind the lines of a file.
-ghost use Rattle.std.specs.Prelude.{◌≡◌, length};
+ghost use Rattle.std.specs.Prelude.{◌≡◌, ◌≤◌, length};
 
-// The most bytes of a text that a buffer of the library io has room for.
+use std::io::Read;
+
+// The most bytes of a text that a program lends room for.
 pub const MOST: usize = 4096;
 
+// Reads until the room is full or the file ends, and gives how many bytes there were. They stand at
+// the front.
+pub fn some(file: &mut impl Read, room: &mut [u8]) -> usize
+    ensures bounded { result ≤ length room.new }
+    ensures kept { length room.new ≡ length room.old }
+{
+    let mut done = 0;
+    while done < room.len() {
+        match file.read(&mut room[done..]) {
+            Ok(0) | Err(_) => break,
+            Ok(n) => done += n,
+        }
+    }
+    done
+}
+
 // Whether there are bytes that fill the room. They are read into it.
-pub fn full(fd: i32, room: &mut [u8]) -> bool
+pub fn full(file: &mut impl Read, room: &mut [u8]) -> bool
     ensures { length room.new ≡ length room.old }
 {
     let whole = room.len();
-    io::read_full(fd, room) == whole
+    some(file, room) == whole
 }
 
 // The same of a text with a line feed behind it.
-pub fn text(fd: i32, room: &mut [u8]) -> bool
+pub fn text(file: &mut impl Read, room: &mut [u8]) -> bool
     ensures { length room.new ≡ length room.old }
 {
-    let filled = full(fd, room);
+    let filled = full(file, room);
     let mut end = [0u8; 1];
-    let m = io::read_full(fd, &mut end);
+    let m = some(file, &mut end);
     filled & (m == 1) & (end[0] == b'\n')
 }

@@ -32,51 +32,66 @@ fn hold(slots: &[u16], from: usize, to: usize, word: u16) -> bool {
 }
 
 // Slots that are not the text's are left alone.
-fn rest_agrees(name: &[u8], head: &[u8], text: &[u8], slots: &[u16]) -> bool {
+fn rest_agrees(rt: &impl Print, name: &[u8], head: &[u8], text: &[u8], slots: &[u16]) -> bool {
     if hold(slots, text.len(), slots.len(), UNUSED) {
         return true;
     }
-    report::text_difference(name, head, text);
-    report::text(b"slots behind the text are written\n");
+    report::text_difference(rt, name, head, text);
+    report::text(rt, b"slots behind the text are written\n");
     false
 }
 
 // After a refusal the text's slots are zero.
-fn clear_agrees(name: &[u8], head: &[u8], text: &[u8], slots: &[u16]) -> bool {
+fn clear_agrees(rt: &impl Print, name: &[u8], head: &[u8], text: &[u8], slots: &[u16]) -> bool {
     if hold(slots, 0, text.len(), 0) {
         return true;
     }
-    report::text_difference(name, head, text);
-    report::text(b"slots of a refused text are not zero\n");
+    report::text_difference(rt, name, head, text);
+    report::text(rt, b"slots of a refused text are not zero\n");
     false
 }
 
-fn refusal_agrees(name: &[u8], head: &[u8], text: &[u8], number: u64, place: u64) -> bool {
+fn refusal_agrees(
+    rt: &impl Print,
+    name: &[u8],
+    head: &[u8],
+    text: &[u8],
+    number: u64,
+    place: u64,
+) -> bool {
     let same = (line::number(head, 4, 5) == number) & (line::number(head, 6, 9) == place);
     if same & (number != 0) {
         return true;
     }
-    report::text_difference(name, head, text);
-    report::text(b"got");
-    report::hex(b" ", number, 1);
-    report::hex(b" ", place, 3);
-    report::text(b"\n");
+    report::text_difference(rt, name, head, text);
+    report::text(rt, b"got");
+    report::hex(rt, b" ", number, 1);
+    report::hex(rt, b" ", place, 3);
+    report::text(rt, b"\n");
     false
 }
 
-fn page_agrees(name: &[u8], head: &[u8], text: &[u8], tree: &[u8], shown: &[u8]) -> bool {
+fn page_agrees(
+    rt: &impl Print,
+    name: &[u8],
+    head: &[u8],
+    text: &[u8],
+    tree: &[u8],
+    shown: &[u8],
+) -> bool {
     let same = (shown.len() == tree.len()) & has_word(shown, 0, tree);
     if same & (line::number(head, 4, 5) == 0) {
         return true;
     }
-    report::text_difference(name, head, text);
-    report::text(b"got ");
-    report::text(shown);
-    report::text(b"\n");
+    report::text_difference(rt, name, head, text);
+    report::text(rt, b"got ");
+    report::text(rt, shown);
+    report::text(rt, b"\n");
     false
 }
 
 fn tree_agrees(
+    rt: &impl Print,
     name: &[u8],
     head: &[u8],
     text: &[u8],
@@ -87,29 +102,37 @@ fn tree_agrees(
 ) -> bool {
     let end = shown::tree(page, 0, text, false, slots, root, MOST_HEIGHT);
     if end < page.len() {
-        return page_agrees(name, head, text, tree, &page[..end]);
+        return page_agrees(rt, name, head, text, tree, &page[..end]);
     }
-    report::text_difference(name, head, text);
-    report::text(b"the tree is too long\n");
+    report::text_difference(rt, name, head, text);
+    report::text(rt, b"the tree is too long\n");
     false
 }
 
-fn judgement_agrees(name: &[u8], head: &[u8], text: &[u8], tree: &[u8], slots: &mut [u16]) -> bool {
+fn judgement_agrees(
+    rt: &impl Print,
+    name: &[u8],
+    head: &[u8],
+    text: &[u8],
+    tree: &[u8],
+    slots: &mut [u16],
+) -> bool {
     match judge(text, slots) {
         Judgement::Fine { root } => {
             let mut page = [0u8; PAGE];
-            tree_agrees(name, head, text, tree, slots, root, &mut page)
-                & rest_agrees(name, head, text, slots)
+            tree_agrees(rt, name, head, text, tree, slots, root, &mut page)
+                & rest_agrees(rt, name, head, text, slots)
         }
         Judgement::Refused(refusal) => {
             refusal_agrees(
+                rt,
                 name,
                 head,
                 text,
                 refusal.number as u64,
                 refusal.place as u64,
-            ) & clear_agrees(name, head, text, slots)
-                & rest_agrees(name, head, text, slots)
+            ) & clear_agrees(rt, name, head, text, slots)
+                & rest_agrees(rt, name, head, text, slots)
         }
     }
 }
@@ -123,27 +146,28 @@ fn is_short(text: &[u8], slots: &mut [u16]) -> bool {
 }
 
 // With a slot too few a text is refused, and the slots are left alone.
-fn short_agrees(name: &[u8], head: &[u8], text: &[u8], slots: &mut [u16]) -> bool {
+fn short_agrees(rt: &impl Print, name: &[u8], head: &[u8], text: &[u8], slots: &mut [u16]) -> bool {
     if is_short(text, slots) & hold(slots, 0, slots.len(), UNUSED) {
         return true;
     }
-    report::text_difference(name, head, text);
-    report::text(b"too few slots are not refused\n");
+    report::text_difference(rt, name, head, text);
+    report::text(rt, b"too few slots are not refused\n");
     false
 }
 
 // The empty text needs no slot.
-fn room_agrees(name: &[u8], head: &[u8], text: &[u8], slots: &mut [u16]) -> bool {
+fn room_agrees(rt: &impl Print, name: &[u8], head: &[u8], text: &[u8], slots: &mut [u16]) -> bool {
     let n = text.len();
     if 0 < n {
         if n <= slots.len() {
-            return short_agrees(name, head, text, &mut slots[..n - 1]);
+            return short_agrees(rt, name, head, text, &mut slots[..n - 1]);
         }
     }
     true
 }
 
-pub(crate) fn agrees(name: &[u8], head: &[u8], text: &[u8], tree: &[u8]) -> bool {
+pub(crate) fn agrees(rt: &impl Print, name: &[u8], head: &[u8], text: &[u8], tree: &[u8]) -> bool {
     let mut slots = [UNUSED; SLOTS];
-    room_agrees(name, head, text, &mut slots) & judgement_agrees(name, head, text, tree, &mut slots)
+    room_agrees(rt, name, head, text, &mut slots)
+        & judgement_agrees(rt, name, head, text, tree, &mut slots)
 }

@@ -8,11 +8,14 @@ mod judged;
 use cases::tally;
 use cases::tally::{Outcome, Tally, sum};
 use reports::report;
+use std::fs::File;
+use std::io::Read;
+use std::rt::Files;
 
-fn count_cases(fd: i32, name: &[u8]) -> Tally {
+fn count_cases(rt: &impl Print, file: &mut impl Read, name: &[u8]) -> Tally {
     let mut t = tally::NONE;
     for _ in 0..tally::MOST_CASES {
-        let o = case::next(fd, name);
+        let o = case::next(rt, file, name);
         if let Outcome::End = o {
             return t;
         }
@@ -21,46 +24,47 @@ fn count_cases(fd: i32, name: &[u8]) -> Tally {
     t
 }
 
-fn run(name: &[u8]) -> Tally {
-    let fd = os::open_read(name);
-    if fd < 0 {
-        return report::missing(name);
+fn run(rt: &(impl Files + Print), path: &str) -> Tally {
+    let name = path.as_bytes();
+    match File::open(rt, path) {
+        Ok(mut file) => {
+            let t = count_cases(rt, &mut file, name);
+            report::counts(rt, name, t)
+        }
+        Err(_) => report::missing(rt, name),
     }
-    let t = count_cases(fd, name);
-    libc::close(fd);
-    report::counts(name, t)
 }
 
 // What the grammar makes of texts.
-fn grammar() -> Tally {
-    let mut t = run(b"examples");
-    t = sum(t, run(b"short"));
-    t = sum(t, run(b"grouping"));
-    t = sum(t, run(b"unary"));
-    t = sum(t, run(b"picks"));
-    t = sum(t, run(b"conditionals"));
-    sum(t, run(b"calls"))
+fn grammar(rt: &(impl Files + Print)) -> Tally {
+    let mut t = run(rt, "examples");
+    t = sum(t, run(rt, "short"));
+    t = sum(t, run(rt, "grouping"));
+    t = sum(t, run(rt, "unary"));
+    t = sum(t, run(rt, "picks"));
+    t = sum(t, run(rt, "conditionals"));
+    sum(t, run(rt, "calls"))
 }
 
 // What is refused beside the grammar, and what stands at its edge.
-fn edges() -> Tally {
-    let mut t = run(b"brackets");
-    t = sum(t, run(b"names"));
-    t = sum(t, run(b"heights"));
-    t = sum(t, run(b"limits"));
-    t = sum(t, run(b"spaces"));
-    sum(t, run(b"orders"))
+fn edges(rt: &(impl Files + Print)) -> Tally {
+    let mut t = run(rt, "brackets");
+    t = sum(t, run(rt, "names"));
+    t = sum(t, run(rt, "heights"));
+    t = sum(t, run(rt, "limits"));
+    t = sum(t, run(rt, "spaces"));
+    sum(t, run(rt, "orders"))
 }
 
-fn random() -> Tally {
-    let mut t = run(b"soup");
-    t = sum(t, run(b"damage"));
-    sum(t, run(b"random"))
+fn random(rt: &(impl Files + Print)) -> Tally {
+    let mut t = run(rt, "soup");
+    t = sum(t, run(rt, "damage"));
+    sum(t, run(rt, "random"))
 }
 
-fn main() {
-    let mut t = grammar();
-    t = sum(t, edges());
-    t = sum(t, random());
-    report::counts(b"total", t);
+fn main(rt: HostRuntime) {
+    let mut t = grammar(&rt);
+    t = sum(t, edges(&rt));
+    t = sum(t, random(&rt));
+    report::counts(&rt, b"total", t);
 }

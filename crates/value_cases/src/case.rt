@@ -5,9 +5,10 @@ use crate::{color, colours, names, numbers, rules, sets, shown, strings};
 use cases::tally::Outcome;
 use cases::{line, tally};
 use reports::{read, report};
+use std::io::Read;
 
 // What the cases of a file are about.
-#[derive(Drop)]
+#[derive(Clone, Copy)]
 pub(crate) enum Subject {
     Rules,
     Numbers,
@@ -58,53 +59,66 @@ fn text_length(s: Subject, head: &[u8]) -> usize {
 }
 
 // Reads the text behind the line and compares what is said of it.
-fn text_agrees(fd: i32, name: &[u8], s: Subject, head: &[u8], text: &mut [u8]) -> bool {
-    if !read::text(fd, text) {
-        return report::malformed(name, head);
+fn text_agrees(
+    rt: &impl Print,
+    file: &mut impl Read,
+    name: &[u8],
+    s: Subject,
+    head: &[u8],
+    text: &mut [u8],
+) -> bool {
+    if !read::text(file, text) {
+        return report::malformed(rt, name, head);
     }
     match s {
-        Subject::Strings => strings::agrees(fd, name, head, text),
-        Subject::Colours => colours::agrees(name, head, text),
-        Subject::Color => color::agrees(name, head, text),
-        _ => names::agrees(name, head, text),
+        Subject::Strings => strings::agrees(rt, file, name, head, text),
+        Subject::Colours => colours::agrees(rt, name, head, text),
+        Subject::Color => color::agrees(rt, name, head, text),
+        _ => names::agrees(rt, name, head, text),
     }
 }
 
 // Lends the room for the text.
-fn with_text(fd: i32, name: &[u8], s: Subject, head: &[u8]) -> bool {
+fn with_text(rt: &impl Print, file: &mut impl Read, name: &[u8], s: Subject, head: &[u8]) -> bool {
     let length = text_length(s, head);
     if length <= read::MOST {
-        let mut room = io::buffer();
-        return text_agrees(fd, name, s, head, &mut room[..length]);
+        let mut room = [0u8; read::MOST];
+        return text_agrees(rt, file, name, s, head, &mut room[..length]);
     }
-    report::malformed(name, head)
+    report::malformed(rt, name, head)
 }
 
 // A line that is malformed does not agree.
-fn agrees(fd: i32, name: &[u8], s: Subject, head: &[u8]) -> bool {
+fn agrees(rt: &impl Print, file: &mut impl Read, name: &[u8], s: Subject, head: &[u8]) -> bool {
     if !is_well_formed(s, head) {
-        return report::malformed(name, head);
+        return report::malformed(rt, name, head);
     }
     match s {
-        Subject::Rules => rules::agrees(name, head),
-        Subject::Numbers => numbers::agrees(name, head),
-        Subject::Shown => shown::agrees(name, head),
-        Subject::Sets => sets::agrees(name, head),
-        _ => with_text(fd, name, s, head),
+        Subject::Rules => rules::agrees(rt, name, head),
+        Subject::Numbers => numbers::agrees(rt, name, head),
+        Subject::Shown => shown::agrees(rt, name, head),
+        Subject::Sets => sets::agrees(rt, name, head),
+        _ => with_text(rt, file, name, s, head),
     }
 }
 
 // Nothing more to read is the end.
-fn read_case(fd: i32, name: &[u8], s: Subject, head: &mut [u8]) -> Outcome {
-    let n = io::read_full(fd, head);
+fn read_case(
+    rt: &impl Print,
+    file: &mut impl Read,
+    name: &[u8],
+    s: Subject,
+    head: &mut [u8],
+) -> Outcome {
+    let n = read::some(file, head);
     if n == 0 {
         return Outcome::End;
     }
-    tally::compared(agrees(fd, name, s, &head[..n]))
+    tally::compared(agrees(rt, file, name, s, &head[..n]))
 }
 
-pub(crate) fn next(fd: i32, name: &[u8], s: Subject) -> Outcome {
+pub(crate) fn next(rt: &impl Print, file: &mut impl Read, name: &[u8], s: Subject) -> Outcome {
     let size = width(s);
-    let mut room = io::buffer();
-    read_case(fd, name, s, &mut room[..size])
+    let mut room = [0u8; read::MOST];
+    read_case(rt, file, name, s, &mut room[..size])
 }

@@ -35,12 +35,12 @@ fn given(head: &[u8], style: &[u8]) -> Outcome {
     }
 }
 
-pub(crate) fn agrees(name: &[u8], head: &[u8], style: &[u8]) -> bool {
+pub(crate) fn agrees(rt: &impl Print, name: &[u8], head: &[u8], style: &[u8]) -> bool {
     let got = values::of_outcome(given(head, style));
     if (values::kind_number(got) == VEC4) & doubles::agree(head, 57, colour_of(got)) {
         return true;
     }
-    report::text_difference(name, head, style);
-    values::print(got);
+    report::text_difference(rt, name, head, style);
+    values::print(rt, got);
     false
 }

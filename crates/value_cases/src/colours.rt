@@ -20,21 +20,28 @@ pub(crate) fn is_well_formed(head: &[u8]) -> bool {
     )
 }
 
-fn colour_agrees(name: &[u8], head: &[u8], text: &[u8], mark: u8, c: Colour) -> bool {
+fn colour_agrees(
+    rt: &impl Print,
+    name: &[u8],
+    head: &[u8],
+    text: &[u8],
+    mark: u8,
+    c: Colour,
+) -> bool {
     if (line::byte(head, 4) == mark) & doubles::agree(head, 6, c) {
         return true;
     }
-    report::text_difference(name, head, text);
-    report::text(b"got ");
-    report::text(&[mark]);
-    doubles::print(c);
-    report::text(b"\n");
+    report::text_difference(rt, name, head, text);
+    report::text(rt, b"got ");
+    report::text(rt, &[mark]);
+    doubles::print(rt, c);
+    report::text(rt, b"\n");
     false
 }
 
-pub(crate) fn agrees(name: &[u8], head: &[u8], text: &[u8]) -> bool {
+pub(crate) fn agrees(rt: &impl Print, name: &[u8], head: &[u8], text: &[u8]) -> bool {
     match Colour::from_text(text) {
-        Named::Known(c) => colour_agrees(name, head, text, b'1', c),
-        Named::Unknown => colour_agrees(name, head, text, b'0', NOTHING),
+        Named::Known(c) => colour_agrees(rt, name, head, text, b'1', c),
+        Named::Unknown => colour_agrees(rt, name, head, text, b'0', NOTHING),
     }
 }

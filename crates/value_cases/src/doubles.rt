@@ -33,9 +33,9 @@ pub(crate) fn agree(head: &[u8], at: usize, c: Colour) -> bool
         & (pattern(head, at + 51) == to_bits(c.alpha))
 }
 
-pub(crate) fn print(c: Colour) {
-    report::hex(b" ", to_bits(c.red), 16);
-    report::hex(b" ", to_bits(c.green), 16);
-    report::hex(b" ", to_bits(c.blue), 16);
-    report::hex(b" ", to_bits(c.alpha), 16);
+pub(crate) fn print(rt: &impl Print, c: Colour) {
+    report::hex(rt, b" ", to_bits(c.red), 16);
+    report::hex(rt, b" ", to_bits(c.green), 16);
+    report::hex(rt, b" ", to_bits(c.blue), 16);
+    report::hex(rt, b" ", to_bits(c.alpha), 16);
 }

@@ -21,11 +21,14 @@ use case::Subject;
 use cases::tally;
 use cases::tally::{Outcome, Tally, sum};
 use reports::report;
+use std::fs::File;
+use std::io::Read;
+use std::rt::Files;
 
-fn count_cases(fd: i32, name: &[u8], s: Subject) -> Tally {
+fn count_cases(rt: &impl Print, file: &mut impl Read, name: &[u8], s: Subject) -> Tally {
     let mut t = tally::NONE;
     for _ in 0..tally::MOST_CASES {
-        let o = case::next(fd, name, s);
+        let o = case::next(rt, file, name, s);
         if let Outcome::End = o {
             return t;
         }
@@ -34,24 +37,25 @@ fn count_cases(fd: i32, name: &[u8], s: Subject) -> Tally {
     t
 }
 
-fn run(name: &[u8], s: Subject) -> Tally {
-    let fd = os::open_read(name);
-    if fd < 0 {
-        return report::missing(name);
+fn run(rt: &(impl Files + Print), path: &str, s: Subject) -> Tally {
+    let name = path.as_bytes();
+    match File::open(rt, path) {
+        Ok(mut file) => {
+            let t = count_cases(rt, &mut file, name, s);
+            report::counts(rt, name, t)
+        }
+        Err(_) => report::missing(rt, name),
     }
-    let t = count_cases(fd, name, s);
-    libc::close(fd);
-    report::counts(name, t)
 }
 
-fn main() {
-    let mut t = run(b"rules", Subject::Rules);
-    t = sum(t, run(b"numbers", Subject::Numbers));
-    t = sum(t, run(b"strings", Subject::Strings));
-    t = sum(t, run(b"colours", Subject::Colours));
-    t = sum(t, run(b"color", Subject::Color));
-    t = sum(t, run(b"shown", Subject::Shown));
-    t = sum(t, run(b"sets", Subject::Sets));
-    t = sum(t, run(b"names", Subject::Names));
-    report::counts(b"total", t);
+fn main(rt: HostRuntime) {
+    let mut t = run(&rt, "rules", Subject::Rules);
+    t = sum(t, run(&rt, "numbers", Subject::Numbers));
+    t = sum(t, run(&rt, "strings", Subject::Strings));
+    t = sum(t, run(&rt, "colours", Subject::Colours));
+    t = sum(t, run(&rt, "color", Subject::Color));
+    t = sum(t, run(&rt, "shown", Subject::Shown));
+    t = sum(t, run(&rt, "sets", Subject::Sets));
+    t = sum(t, run(&rt, "names", Subject::Names));
+    report::counts(&rt, b"total", t);
 }

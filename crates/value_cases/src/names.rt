@@ -16,7 +16,7 @@ fn operation_number(found: Found) -> u64 {
     }
 }
 
-pub(crate) fn agrees(name: &[u8], head: &[u8], word: &[u8]) -> bool {
+pub(crate) fn agrees(rt: &impl Print, name: &[u8], head: &[u8], word: &[u8]) -> bool {
     let function = function_number(word);
     let member = member_index(word);
     let called = operation_number(function_at(function));
@@ -28,12 +28,12 @@ pub(crate) fn agrees(name: &[u8], head: &[u8], word: &[u8]) -> bool {
     if same {
         return true;
     }
-    report::text_difference(name, head, word);
-    report::text(b"got");
-    report::hex(b" ", function as u64, 2);
-    report::hex(b" ", called, 2);
-    report::hex(b" ", member as u64, 1);
-    report::hex(b" ", picked, 2);
-    report::text(b"\n");
+    report::text_difference(rt, name, head, word);
+    report::text(rt, b"got");
+    report::hex(rt, b" ", function as u64, 2);
+    report::hex(rt, b" ", called, 2);
+    report::hex(rt, b" ", member as u64, 1);
+    report::hex(rt, b" ", picked, 2);
+    report::text(rt, b"\n");
     false
 }

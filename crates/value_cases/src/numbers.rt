@@ -74,12 +74,12 @@ fn is_wanted(head: &[u8], v: Value) -> bool {
         & (values::pattern(v, 3) == line::number(head, 318, 334))
 }
 
-pub(crate) fn agrees(name: &[u8], head: &[u8]) -> bool {
+pub(crate) fn agrees(rt: &impl Print, name: &[u8], head: &[u8]) -> bool {
     let got = values::of_outcome(given(head, operations::of_line(head)));
     if is_wanted(head, got) {
         return true;
     }
-    report::difference(name, head);
-    values::print(got);
+    report::difference(rt, name, head);
+    values::print(rt, got);
     false
 }

@@ -40,31 +40,31 @@ fn given(head: &[u8], last: Kind) -> u8 {
     }
 }
 
-fn last_agrees(name: &[u8], head: &[u8], last: Kind) -> bool {
+fn last_agrees(rt: &impl Print, name: &[u8], head: &[u8], last: Kind) -> bool {
     let got = given(head, last);
     if got == line::byte(head, 8 + number(last) as usize) {
         return true;
     }
-    report::difference(name, head);
-    report::text(b"got ");
-    report::text(&[got]);
-    report::text(b" for a last operand of kind ");
-    report::text(&[kinds::digit(last)]);
-    report::text(b"\n");
+    report::difference(rt, name, head);
+    report::text(rt, b"got ");
+    report::text(rt, &[got]);
+    report::text(rt, b" for a last operand of kind ");
+    report::text(rt, &[kinds::digit(last)]);
+    report::text(rt, b"\n");
     false
 }
 
 // Without operands the first of the eight counts.
-pub(crate) fn agrees(name: &[u8], head: &[u8]) -> bool {
+pub(crate) fn agrees(rt: &impl Print, name: &[u8], head: &[u8]) -> bool {
     if line::byte(head, 2) == b'0' {
-        return last_agrees(name, head, Kind::Undefined);
+        return last_agrees(rt, name, head, Kind::Undefined);
     }
-    last_agrees(name, head, Kind::Undefined)
-        & last_agrees(name, head, Kind::Null)
-        & last_agrees(name, head, Kind::Boolean)
-        & last_agrees(name, head, Kind::Number)
-        & last_agrees(name, head, Kind::String)
-        & last_agrees(name, head, Kind::Vec2)
-        & last_agrees(name, head, Kind::Vec3)
-        & last_agrees(name, head, Kind::Vec4)
+    last_agrees(rt, name, head, Kind::Undefined)
+        & last_agrees(rt, name, head, Kind::Null)
+        & last_agrees(rt, name, head, Kind::Boolean)
+        & last_agrees(rt, name, head, Kind::Number)
+        & last_agrees(rt, name, head, Kind::String)
+        & last_agrees(rt, name, head, Kind::Vec2)
+        & last_agrees(rt, name, head, Kind::Vec3)
+        & last_agrees(rt, name, head, Kind::Vec4)
 }

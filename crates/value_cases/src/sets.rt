@@ -30,21 +30,21 @@ fn parts_of(head: &[u8]) -> Parts {
     with_part(head, fifth, 5)
 }
 
-fn set_agrees(name: &[u8], head: &[u8], mark: u8, mask: u64) -> bool {
+fn set_agrees(rt: &impl Print, name: &[u8], head: &[u8], mark: u8, mask: u64) -> bool {
     if (line::byte(head, 18) == mark) & (line::number(head, 20, 22) == mask) {
         return true;
     }
-    report::difference(name, head);
-    report::text(b"got ");
-    report::text(&[mark]);
-    report::hex(b" ", mask, 2);
-    report::text(b"\n");
+    report::difference(rt, name, head);
+    report::text(rt, b"got ");
+    report::text(rt, &[mark]);
+    report::hex(rt, b" ", mask, 2);
+    report::text(rt, b"\n");
     false
 }
 
-pub(crate) fn agrees(name: &[u8], head: &[u8]) -> bool {
+pub(crate) fn agrees(rt: &impl Print, name: &[u8], head: &[u8]) -> bool {
     match node_kinds(operations::of_line(head), parts_of(head)) {
-        Checked::Refused => set_agrees(name, head, b'R', 0),
-        Checked::Accepted(set) => set_agrees(name, head, b'A', kinds::mask(set)),
+        Checked::Refused => set_agrees(rt, name, head, b'R', 0),
+        Checked::Accepted(set) => set_agrees(rt, name, head, b'A', kinds::mask(set)),
     }
 }

@@ -19,24 +19,24 @@ fn bytes_agree(head: &[u8], b: Rgba8) -> bool {
         & (line::number(head, 142, 144) == b.alpha as u64)
 }
 
-fn print(c: Colour, b: Rgba8) {
-    report::text(b"got");
-    doubles::print(c);
-    report::hex(b" ", b.red as u64, 2);
-    report::hex(b" ", b.green as u64, 2);
-    report::hex(b" ", b.blue as u64, 2);
-    report::hex(b" ", b.alpha as u64, 2);
-    report::text(b"\n");
+fn print(rt: &impl Print, c: Colour, b: Rgba8) {
+    report::text(rt, b"got");
+    doubles::print(rt, c);
+    report::hex(rt, b" ", b.red as u64, 2);
+    report::hex(rt, b" ", b.green as u64, 2);
+    report::hex(rt, b" ", b.blue as u64, 2);
+    report::hex(rt, b" ", b.alpha as u64, 2);
+    report::text(rt, b"\n");
 }
 
-pub(crate) fn agrees(name: &[u8], head: &[u8]) -> bool {
+pub(crate) fn agrees(rt: &impl Print, name: &[u8], head: &[u8]) -> bool {
     let c = doubles::colour(head, 0);
     let clamped = c.clamped();
     let bytes = c.bytes();
     if doubles::agree(head, 68, clamped) & bytes_agree(head, bytes) {
         return true;
     }
-    report::difference(name, head);
-    print(clamped, bytes);
+    report::difference(rt, name, head);
+    print(rt, clamped, bytes);
     false
 }

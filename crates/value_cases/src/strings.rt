@@ -5,6 +5,7 @@ ghost use Rattle.std.specs.Prelude.{◌≤◌};
 use crate::{kinds, operations, values};
 use cases::line;
 use reports::{read, report};
+use std::io::Read;
 use value::apply::apply2;
 use value::value::{Span, Value};
 
@@ -37,7 +38,7 @@ fn operand(head: &[u8], at: usize) -> Value
     })
 }
 
-fn texts_agree(name: &[u8], head: &[u8], style: &[u8], feature: &[u8]) -> bool {
+fn texts_agree(rt: &impl Print, name: &[u8], head: &[u8], style: &[u8], feature: &[u8]) -> bool {
     let got = values::of_outcome(apply2(
         style,
         feature,
@@ -49,25 +50,38 @@ fn texts_agree(name: &[u8], head: &[u8], style: &[u8], feature: &[u8]) -> bool {
     if same & (values::kind_number(got) == BOOLEAN) {
         return true;
     }
-    report::text_difference(name, head, style);
-    report::text(feature);
-    report::text(b"\n");
-    values::print(got);
+    report::text_difference(rt, name, head, style);
+    report::text(rt, feature);
+    report::text(rt, b"\n");
+    values::print(rt, got);
     false
 }
 
-fn read_feature(fd: i32, name: &[u8], head: &[u8], style: &[u8], feature: &mut [u8]) -> bool {
-    if read::text(fd, feature) {
-        return texts_agree(name, head, style, feature);
+fn read_feature(
+    rt: &impl Print,
+    file: &mut impl Read,
+    name: &[u8],
+    head: &[u8],
+    style: &[u8],
+    feature: &mut [u8],
+) -> bool {
+    if read::text(file, feature) {
+        return texts_agree(rt, name, head, style, feature);
     }
-    report::malformed(name, head)
+    report::malformed(rt, name, head)
 }
 
-pub(crate) fn agrees(fd: i32, name: &[u8], head: &[u8], style: &[u8]) -> bool {
+pub(crate) fn agrees(
+    rt: &impl Print,
+    file: &mut impl Read,
+    name: &[u8],
+    head: &[u8],
+    style: &[u8],
+) -> bool {
     let length = line::number(head, 7, 10) as usize;
     if length <= read::MOST {
-        let mut room = io::buffer();
-        return read_feature(fd, name, head, style, &mut room[..length]);
+        let mut room = [0u8; read::MOST];
+        return read_feature(rt, file, name, head, style, &mut room[..length]);
     }
-    report::malformed(name, head)
+    report::malformed(rt, name, head)
 }

@@ -45,12 +45,12 @@ pub(crate) fn pattern(v: Value, i: u8) -> u64 {
 }
 
 // What came.
-pub(crate) fn print(v: Value) {
-    report::text(b"got");
-    report::hex(b" ", kind_number(v), 1);
-    report::hex(b" ", pattern(v, 0), 16);
-    report::hex(b" ", pattern(v, 1), 16);
-    report::hex(b" ", pattern(v, 2), 16);
-    report::hex(b" ", pattern(v, 3), 16);
-    report::text(b"\n");
+pub(crate) fn print(rt: &impl Print, v: Value) {
+    report::text(rt, b"got");
+    report::hex(rt, b" ", kind_number(v), 1);
+    report::hex(rt, b" ", pattern(v, 0), 16);
+    report::hex(rt, b" ", pattern(v, 1), 16);
+    report::hex(rt, b" ", pattern(v, 2), 16);
+    report::hex(rt, b" ", pattern(v, 3), 16);
+    report::text(rt, b"\n");
 }

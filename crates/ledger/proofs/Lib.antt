@@ -1,2 +1,0 @@
--- What the functions' proofs lean on
-pub mod Parts

@@ -1,0 +1,7 @@
+-- The line lies in the output.
+use Rattle.std.proofs.Common.{arith}
+use Rattle.output.proofs.Law.Lines.{front-within}
+use Rattle.ledger_cases.proofs.made.line.Goals as goal
+
+pub returns-in-Refused : goal.returns-in-Refused
+returns-in-Refused c = omega (arith, front-within _ _ c.refused_feature.ensures)
