@@ -124,7 +124,7 @@ of_product Dot = map (λ k. (k ∷ k ∷ []) ⇒ Number) numerics
 of_product Cross = ((Vec3 ∷ Vec3 ∷ []) ⇒ Vec3) ∷ []
 
 -- the rest: "Unary `+ -`: Number, vectors", "`abs sign floor ceil round fract`: Number or vector"; "`< <= > >=`: two Numbers"; "`===` takes
--- all kinds", and "`!==` is its negation"; "`is_nan`, `is_finite`: Number"; a pick takes the vectors that have its component ("`.z` of a
+-- all kinds", and "`!==` is its negation"; "`isNaN`, `isFinite`: Number"; a pick takes the vectors that have its component ("`.z` of a
 -- vec2" is a fault)
 abbrev pub signatures : Operation → List Signature
 signatures (op.Unary f) = one

@@ -1,24 +1,20 @@
 -- The plan and the room that an accepted head leaves hold its style: each expression has its row, and beside it lies its tree.
 use mathlib.Core.Path.{◌≡◌, refl, sym, ◌∙◌, ap, subst}
 use mathlib.Core.Bool.{Bool, true, false}
-use mathlib.Core.List.{List, [], ◌∷◌, ◌++◌}
+use mathlib.Core.List.{List, [], ◌∷◌}
 use Prim.Native.Nat.{ℕ, suc, ◌+◌, ◌-◌, ◌*◌, ◌<◌, ◌≤◌}
 use native.Mathlib.Omega.{arith}
 use borrow.Author.Tests.{ltb-true, ltb-false}
 use lib.Dec.{ltb}
 use lib.ListN.{length, get_or, set, drop, length-set, drop_of_length-le}
 use lib.Seq.{slice, length-slice, get_or-set_other}
-use Rattle.lexer.specs.Refusal.{fine}
-use Rattle.plan.specs.Layout.{first_define, show_row, colour_row, test_row, result_row, property_count, define_count, show_count, colour_count, condition_count, set_place, from_place, to_place, root_place}
-use Rattle.kind.specs.declared.set.Kinds.{Kinds}
+use Rattle.plan.specs.Layout.{first_define, define_count, condition_count, set_place, from_place, to_place, root_place}
 use Rattle.tree.specs.Tree.{place}
 use Rattle.syntax.specs.Judge.{slots_after}
 use Rattle.checker.specs.Name.{resolved_slots}
 use Rattle.checker.specs.Property.{packed_of}
-use Rattle.checker.specs.declared.name.Scope.{Scope}
 use Rattle.checker.specs.declared.name.Scope.TheVariants as scope
 use Rattle.text.specs.Parts.{lines, end_from, fields, field, field_start, part_at}
-use Rattle.text.specs.Slice.{put_back}
 use Rattle.text.proofs.Law.Parts.{lines_from, end-within, lies, start-next}
 use Rattle.text.proofs.Slices.{slice-slice, put-left, put-there}
 use Rattle.style.specs.Answer.{accepted}
@@ -29,11 +25,11 @@ use Rattle.style.specs.Item as item
 use Rattle.style.specs.Items.{may_stand}
 use Rattle.style.specs.Head.{head_from, head_of, head_size, room_size}
 use Rattle.style.specs.Compile.{with_set, with_row, planned, fresh_plan, laid, roomed, onward, lines_make, plan_of, room_of}
-use Rattle.style.specs.Holds.{Each, Laid, Held, Behind, StyleHeld, Expressed, Holds}
+use Rattle.style.specs.Holds.{Each, Laid, Holds}
 use Rattle.style.proofs.Law.Each.{each_map, each_more, each_none, each_at}
 use Rattle.style.proofs.Law.Answers.{accepted_in}
 use Rattle.style.proofs.Law.Ladder.{both}
-use Rattle.style.proofs.Law.Plans.{Kept, fresh_kept, kept_on, word_of, row_other, RowIs, row_is, row-length, property-first, define-next, show-once, colour-once, condition-few, Bare}
+use Rattle.style.proofs.Law.Plans.{Kept, fresh_kept, kept_on, word_of, row_other, row_is, row-length, property-first, define-next, show-once, colour-once, condition-few}
 use Rattle.style.proofs.Law.Rooms.{tree-length, laid-length}
 use Rattle.style.proofs.Law.Turns.{first_fine}
 use Rattle.style.proofs.Items.{Adds, property, define, show, color, condition, item-adds, accepted-text}

@@ -1,6 +1,6 @@
 -- What items give, whoever has read them: every expression of their style was judged and checked, and by the names of that style; the style is whole; and they are refused exactly as an expression that is reached in one of them.
 use mathlib.Core.Path.{◌≡◌, refl, sym, ◌∙◌, ap, subst}
-use mathlib.Core.Bool.{true, false, ◌&&◌, false≢true}
+use mathlib.Core.Bool.{true, ◌&&◌, false≢true}
 use mathlib.Core.List.{List, [], ◌∷◌, ◌++◌, map}
 use mathlib.Core.Logic.{◌↔◌, ◌⊎◌, inl, inr}
 use Prim.Native.Nat.{ℕ, suc, ◌≤◌}

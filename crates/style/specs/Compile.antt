@@ -1,6 +1,6 @@
 -- What compiling leaves of a head for whoever paints: the plan, which is numbers, and beside each expression, in the room, its tree. Page
 -- 01, "What the painter reads" and "Sizes"; the layout is that of the crate `plan`.
-use Rattle.std.specs.Prelude.{cond, List, [], ◌∷◌, ◌++◌, ℕ, ◌+◌, ◌-◌, ltb, length, set, replicate}
+use Rattle.std.specs.Prelude.{List, [], ◌∷◌, ◌++◌, ℕ, ◌+◌, ◌-◌, length, set, replicate}
 use Rattle.std.proofs.Math.Seq.{slice}
 use Rattle.lexer.specs.Refusal.{Judged, refused, fine}
 use Rattle.kind.specs.Set.{single_of}
@@ -18,7 +18,7 @@ use Rattle.text.specs.Slice.{put_back}
 use Rattle.style.specs.Answer.{Answer, refusal, accepted}
 use Rattle.style.specs.Style.{Expression, Style, Entry, property, define, show, colour, condition, empty, with, number_in}
 use Rattle.style.specs.Item.{line_said}
-use Rattle.style.specs.Head.{room_size, style_of, room_after}
+use Rattle.style.specs.Head.{style_of, room_after}
 
 -- ---- the plan with what a line adds
 

@@ -22,7 +22,7 @@ use Rattle.text.specs.Word.{flags_of}
 use Rattle.text.specs.declared.part.Part.{Part}
 use Rattle.text.specs.declared.word.Line.{Line}
 use Rattle.text.specs.declared.word.Line.TheVariants as word
-use Rattle.style.specs.Answer.{Answer, accepted, on_accepted}
+use Rattle.style.specs.Answer.{accepted, on_accepted}
 use Rattle.style.specs.Style.{Declared, Expression, Define, Condition, Style, property, define, show, colour, condition, admits}
 use Rattle.style.specs.Style.{name_of, define_name, kinds_in, number_in}
 use Rattle.style.specs.Style as style

@@ -1,7 +1,7 @@
 -- What a line of a head says before its expressions are judged: page 01, "What the painter reads" and number 8 of "Refusal numbers" ("a
 -- head line's word (unknown, out of order, one too many, `color` beside `cond`), then its field count, then its name, type and flags"; "0
 -- for the word; the end for the count; else first wrong field"). And how it is judged then, whoever has read it.
-use Rattle.std.specs.Prelude.{Bool, true, cond, not, ◌&&◌, List, map, ℕ, eqb, length}
+use Rattle.std.specs.Prelude.{Bool, cond, not, ◌&&◌, List, map, ℕ, eqb, length}
 use Rattle.lexer.specs.Refusal.{Judged, refused, fine, refusal_at, on_fine}
 use Rattle.kind.specs.declared.kind.Kind.{Kind}
 use Rattle.checker.specs.Property.{declared}

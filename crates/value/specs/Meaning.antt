@@ -32,7 +32,7 @@ use Rattle.value.specs.declared.apply.Outcome.{Outcome}
 use Rattle.value.specs.declared.apply.Outcome.TheVariants as outcome-of
 use Rattle.value.specs.declared.value.Span.{Span}
 use Rattle.value.specs.declared.value.Value.{Value}
-use Rattle.value.specs.declared.value.Value.TheVariants.{Undefined, Null, Boolean, Number, String, Vec2, Vec3, Vec4}
+use Rattle.value.specs.declared.value.Value.TheVariants.{Undefined, Boolean, Number, Vec2, Vec3, Vec4}
 
 -- ---- by component
 

@@ -47,7 +47,7 @@ values_left plan n at fs = values_from at (sets_from plan n (length fs)) fs
 ended : (plan : List ℕ) (properties : ℕ) (line spans₀ : List ℕ) (floats₀ : List Float) (spans : List ℕ) (floats : List Float) (r : Feature) →
     outcome (fields_entered (sets_from plan 0 properties) line) 0 spans₀ floats₀ ≡ (answer_of r, spans, floats) → FieldsBy plan properties line spans₀ floats₀ spans floats r
 ended plan properties line spans₀ floats₀ spans floats r w =
-    record { answer = sym (ap (λ o. o.0) w); stored-spans = sym (ap (λ o. o.1) w); stored_floats_lem = sym (ap (λ o. o.2) w) }
+    record { answer = sym (ap (λ o. o.0) w); stored-spans = sym (ap (λ o. o.1) w); stored_floats = sym (ap (λ o. o.2) w) }
 
 -- What is left gives the whole.
 pub record Sofar (plan : List ℕ) (properties : ℕ) (line spans₀ : List ℕ) (floats₀ : List Float) (spans : List ℕ) (floats : List Float) (at n : ℕ) : Type 0 where
@@ -151,4 +151,4 @@ module _ (e : Judged Values) (spans : List ℕ) (floats : List Float) where
       (answer_of r ≡ on_fine e all_conform) × ((spans' ≡ spans_with 0 (values_of e) spans) × (floats' ≡ floats_with 0 (values_of e) floats))
   reads plan properties line spans' floats' r n k f =
       let i : e ≡ fields_entered (sets_from plan 0 properties) line = rw n k in
-      (rw i f.answer, (rw i f.stored-spans, rw i f.stored_floats_lem))
+      (rw i f.answer, (rw i f.stored-spans, rw i f.stored_floats))

@@ -4,7 +4,7 @@ use native.Mathlib.Nat.{zero-mod, zero-div}
 use borrow.Author.Tests.{lt-leb, eqb-false}
 use lib.Dec.{eqb-suc-zero}
 use lib.Signed.{shr_z}
-use lib.Ieee.{Float, nan, inf, fin, binary64, up, down, round, odd, lt, neg, div, of_int, in_float, to_unsigned, fits}
+use lib.Ieee.{Float, nan, inf, fin, binary64, up, down, round, lt, neg, div, of_int, in_float, to_unsigned, fits}
 use lib.Ieee.Back.{round_whole, whole_unique}
 use lib.Ieee.Exact.{HasValue, round_exact}
 use lib.Ieee.Fits.{down_pos, round-fits}

@@ -34,7 +34,6 @@ use Rattle.painter.specs.Paint.{Written, on_values, given_answer, given_line, dr
 use Rattle.painter.specs.declared.answer.Given.{Given}
 use Rattle.painter.specs.declared.answer.Drawn.{Drawn}
 use Rattle.painter.specs.declared.answer.Drawn.TheVariants as drawn
-use Rattle.painter.specs.declared.answer.Painted.{Painted}
 use Rattle.painter.specs.declared.answer.Painted.TheVariants as painted
 use Rattle.painter.specs.Applied.{Source, source, compiled, Arrays, all_defined, with_values, given_at, entered_by, given_under, defined_by, arrays_after, line_written, written_by, applied_of, applied_arrays}
 use Rattle.painter.proofs.Order.{accepted-first, style-given}
@@ -208,8 +207,8 @@ module _ (bytes : ℕ) (room : List ℕ) (head : List ℕ) (number : ℕ) (featu
         pub painted-out : out' ≡ out_after (answer) number out
         painted-out = ap (λ (x : Answer Written × List ℕ). x.1) given ∙ ap (λ (x : Answer Written). out_after x number out) (sym painted-answer)
 
-      pub painted-room : (trees room' : List ℕ) → trees ≡ trees_after head room → room' ≡ replicate (length trees) 0 → room' ≡ room_after bytes room
-      painted-room trees room' left z =
+      pub painted-room : (slots room' : List ℕ) → slots ≡ trees_after head room → room' ≡ replicate (length slots) 0 → room' ≡ room_after bytes room
+      painted-room slots room' left z =
           z
           ∙ ap (λ (n : ℕ). replicate n 0) (ap length left ∙ size head room [] ok)
           ∙ sym (passed room (le-ltb bytes least_bytes enough) (passed room (le-ltb (length room) room_size (accepted-style (length room) head ok).3) refl))

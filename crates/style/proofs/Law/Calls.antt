@@ -1,6 +1,6 @@
 -- What the calls answer, and what they leave.
 use mathlib.Core.Path.{◌≡◌, refl, sym, ◌∙◌, ap, subst}
-use mathlib.Core.Bool.{Bool, true, false, cond, false≢true, true≢false}
+use mathlib.Core.Bool.{Bool, true, false, cond, false≢true}
 use mathlib.Core.List.{List}
 use Prim.Native.Nat.{ℕ, ◌<◌, ◌≤◌}
 use borrow.Author.Tests.{lt-ltb, le-ltb, ltb-false}
@@ -10,7 +10,7 @@ use Rattle.lexer.specs.Refusal.{refusal_at}
 use Rattle.lexer.specs.declared.refusal.Refusal.{Refusal}
 use Rattle.style.specs.Answer.{Answer, refusal, accepted, on_accepted}
 use Rattle.style.specs.Style.{Style}
-use Rattle.style.specs.Head.{head_of, answer_of, head_size, room_size, short_room, long_head, style_of, checked_of, room_after}
+use Rattle.style.specs.Head.{head_of, answer_of, head_size, short_room, long_head, style_of, checked_of, room_after}
 use Rattle.style.specs.Compile.{plan_of, room_of, plan_by, room_by, plan_after, trees_after}
 use Rattle.style.specs.Inner.{LinesBy, SettledBy}
 use Rattle.style.specs.declared.check.LineRefusal.{LineRefusal}

@@ -3,8 +3,7 @@ use mathlib.Core.Path.{◌≡◌, refl, sym, ◌∙◌, ap, subst}
 use mathlib.Core.Bool.{Bool, true, false, true≢false}
 use mathlib.Core.List.{List}
 use Prim.Native.Nat.{ℕ}
-use lib.ListN.{length}
-use Rattle.lexer.specs.Refusal.{Judged, refused, fine, on_fine}
+use Rattle.lexer.specs.Refusal.{Judged, fine, on_fine}
 use Rattle.lexer.specs.declared.refusal.Refusal.{Refusal}
 use Rattle.checker.specs.declared.name.Scope.TheVariants as scope
 use Rattle.checker.specs.declared.check.Wanted.TheVariants as wanted
@@ -13,11 +12,11 @@ use Rattle.text.specs.Name.{is_name}
 use Rattle.text.specs.declared.part.Part.{Part}
 use Rattle.text.specs.declared.word.Line.{Line}
 use Rattle.text.specs.declared.word.Line.TheVariants as word
-use Rattle.style.specs.Style.{Expression, Style, Entry, property, define, show, colour, condition, kinds_in, number_in}
+use Rattle.style.specs.Style.{Style, condition, number_in}
 use Rattle.style.specs.Item.{item_of, item_judged, define_judged, expression, line_said}
 use Rattle.style.specs.Item as item
 use Rattle.style.specs.Compile.{laid}
-use Rattle.style.specs.Inner.{Reads, FieldLies, ItemLies, ItemIs, Of, is_eight, ItemBy, Lain, FieldBy, EntryIs, AddedBy, DefinedBy, single_purpose, single_entry, single_judged, SingleJudgedBy, ColouredBy, ConditionJudgedBy, is_refused, JudgedBy, ReadBy}
+use Rattle.style.specs.Inner.{Reads, FieldLies, ItemLies, ItemIs, Of, is_eight, ItemBy, FieldBy, EntryIs, AddedBy, DefinedBy, single_purpose, single_entry, SingleJudgedBy, ColouredBy, ConditionJudgedBy, JudgedBy, ReadBy}
 use Rattle.style.specs.declared.item.Item.{Item}
 use Rattle.style.specs.declared.item.Item.TheVariants as read
 use Rattle.style.specs.declared.expression.Purpose.{Purpose}

@@ -39,14 +39,13 @@ use Rattle.checker.proofs.Law.Names.{found-stands, one-step}
 use Rattle.text.specs.Parts.{field, field_start}
 use Rattle.text.specs.Slice.{put_back}
 use Rattle.text.specs.declared.part.Part.{Part}
-use Rattle.style.specs.Style.{Expression, Style, kinds_in, number_in}
+use Rattle.style.specs.Style.{Style, kinds_in, number_in}
 use Rattle.style.specs.Expression.{by_kinds, expression_of}
 use Rattle.style.specs.Compile.{laid}
-use Rattle.style.specs.Inner.{look, Reads, FieldLies, scope_of, wanted_of, judged_for, Enters, EnteredBy, Lain, FieldBy}
+use Rattle.style.specs.Inner.{Reads, scope_of, wanted_of, judged_for, EnteredBy, FieldBy}
 use Rattle.style.specs.declared.expression.Purpose.{Purpose}
 use Rattle.style.specs.declared.expression.Entered.{Entered}
 use Rattle.style.specs.declared.expression.Entered.TheVariants as entered
-use Rattle.style.specs.declared.entry.Field.{Field}
 use Rattle.style.specs.declared.entry.Field.TheVariants as field_of
 use Rattle.style.proofs.Law.Items.{field-text}
 

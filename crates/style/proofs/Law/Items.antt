@@ -7,10 +7,9 @@ use native.Mathlib.Omega.{arith}
 use borrow.Author.Tests.{eq-eqb, ne_eqb}
 use lib.ListN.{length, take, drop}
 use lib.Seq.{slice}
-use Rattle.lexer.specs.Refusal.{Judged, refused, fine, refusal_at}
+use Rattle.lexer.specs.Refusal.{refused, refusal_at}
 use Rattle.lexer.proofs.Law.Spelling.{slice_is}
 use Rattle.kind.specs.declared.kind.Kind.{Kind}
-use Rattle.plan.specs.Layout.{number_at, property_count, define_count, show_count, colour_count, condition_count}
 use Rattle.checker.specs.Property.{declared, property_kinds, packed_of}
 use Rattle.text.specs.Parts.{fields, field, field_start, part_at, end_from}
 use Rattle.text.specs.Name.{is_name}
@@ -25,9 +24,8 @@ use Rattle.text.specs.declared.word.Line.TheVariants as word
 use Rattle.text.proofs.Law.Parts.{from_first, here, Lies, lies}
 use Rattle.style.specs.Style.{Style, admits, admits_to, name_of, define_name}
 use Rattle.style.specs.Item.{is_new, on_flags, on_type, property_item, define_item, eight_at, item_by, item_of}
-use Rattle.style.specs.Item as item
 use Rattle.style.specs.Holds.{Counted}
-use Rattle.style.specs.Inner.{is_new_property, is_new_define, Reads, admits_by, eight, FieldLies, ItemLies, ItemIs, Of, WordBy, FlagsBy, PropertyBy, DefineBy, single_item, SingleBy, ConditionBy, is_eight, ItemBy}
+use Rattle.style.specs.Inner.{is_new_property, is_new_define, Reads, admits_by, eight, FieldLies, ItemIs, WordBy, FlagsBy, PropertyBy, DefineBy, single_item, SingleBy, ConditionBy, ItemBy}
 use Rattle.style.specs.declared.item.Item.{Item}
 use Rattle.style.specs.declared.item.Item.TheVariants as read
 use Rattle.style.proofs.Law.Ladder.{taken, passed, both}

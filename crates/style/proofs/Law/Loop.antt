@@ -1,19 +1,17 @@
 -- The lines of a head in turn.
 use mathlib.Core.Path.{◌≡◌, refl, sym, ◌∙◌, ap, ap₂, subst}
 use mathlib.Core.Bool.{Bool, true, false, false≢true, true≢false}
-use mathlib.Core.List.{List, [], ◌∷◌, ◌++◌}
+use mathlib.Core.List.{List, [], ◌∷◌}
 use Prim.Native.Nat.{ℕ, suc, ◌+◌, ◌-◌, ◌*◌, ◌<◌, ◌≤◌}
 use native.Mathlib.Numerals.{add-one}
 use native.Mathlib.Omega.{arith}
-use borrow.Author.Tests.{lt-ltb, le-ltb}
 use lib.ListN.{length, get_or, set, take, drop, replicate, get_or-replicate, length-set, drop_of_length-le}
 use lib.Seq.{slice, length-slice, get_or-set_same, get_or-set_other}
-use Rattle.lexer.specs.Refusal.{Judged, refused, fine, refusal_at}
+use Rattle.lexer.specs.Refusal.{Judged, refused, fine}
 use Rattle.lexer.specs.declared.refusal.Refusal.{Refusal}
 use Rattle.lexer.proofs.Law.Spelling.{slice_is}
 use Rattle.plan.specs.Layout.{start_of, end_of}
 use Rattle.checker.specs.Name.{row_at}
-use Rattle.checker.specs.Property.{property_kinds}
 use Rattle.checker.specs.declared.name.Scope.TheVariants as scope
 use Rattle.text.specs.Parts.{lines, end_from, field, field_start}
 use Rattle.text.specs.Name.{is_name}
@@ -26,8 +24,8 @@ use Rattle.text.proofs.Slices.{slice-slice, put_same, put-length}
 use Rattle.style.specs.Answer.{Answer, refusal, accepted, on_line, on_accepted}
 use Rattle.style.specs.Style.{Declared, Expression, Define, Style, Entry, property, define, show, colour, condition, empty, with, admits, admits_to, number_in}
 use Rattle.style.specs.Item.{line_said}
-use Rattle.style.specs.Head.{head_from, head_of, answer_of, style_of, checked_of, room_after, short_room, long_head}
-use Rattle.style.specs.Compile.{with_row, planned, fresh_plan, laid, roomed, onward, lines_make, plan_of, room_of, plan_after, trees_after}
+use Rattle.style.specs.Head.{head_from, head_of}
+use Rattle.style.specs.Compile.{with_row, planned, fresh_plan, roomed, onward, lines_make, plan_of, room_of}
 use Rattle.style.specs.Holds.{Each, Counted}
 use Rattle.style.specs.Inner.{admits_by, FieldLies, Lain, NameIs, EntryIs, AddedBy, is_refused, refusal_in, ReadBy, name_with, row_with, names_with, plan_with, SmallName, Small, Fits, LinesBy, SettledBy}
 use Rattle.style.specs.declared.check.LineRefusal.{LineRefusal}
@@ -37,7 +35,6 @@ use Rattle.style.specs.declared.entry.Expression as code
 use Rattle.style.specs.declared.entry.Entry as entries
 use Rattle.style.specs.declared.entry.Entry.TheVariants as entry
 use Rattle.style.proofs.Law.Each.{each_map, each_more, each_none, length_more}
-use Rattle.style.proofs.Law.Ladder.{taken, passed}
 use Rattle.style.proofs.Law.Names.{NameAt, Named, reads}
 use Rattle.style.proofs.Law.Plans.{Kept, fresh_kept, word_of, kept_on, property-first, define-next, show-once, colour-once, condition-few}
 use Rattle.style.proofs.Law.Rooms.{laid_beside, laid_both}
@@ -310,12 +307,12 @@ at_first head room plan e wide =
 -- ---- one turn
 
 refused-is : (s : Style) (line w v : List ℕ) (r : entries.Entry) (j : Judged Entry) → is_refused r ≡ true → EntryIs s line w v r j → j ≡ refused (refusal_in r)
-refused-is s line w v (entry.Refused x) j e is = is
-refused-is s line w v (entry.Property name k) j e is = absurd (false≢true e)
-refused-is s line w v (entry.Define name x) j e is = absurd (false≢true e)
-refused-is s line w v (entry.Show x) j e is = absurd (false≢true e)
-refused-is s line w v (entry.Colour x) j e is = absurd (false≢true e)
-refused-is s line w v (entry.Condition x y) j e is = absurd (false≢true e)
+refused-is s _ w v (entry.Refused x) j e is = is
+refused-is s _ w v (entry.Property name k) j e is = absurd (false≢true e)
+refused-is s _ w v (entry.Define name x) j e is = absurd (false≢true e)
+refused-is s _ w v (entry.Show x) j e is = absurd (false≢true e)
+refused-is s _ w v (entry.Colour x) j e is = absurd (false≢true e)
+refused-is s _ w v (entry.Condition x y) j e is = absurd (false≢true e)
 
 module _ (head room₀ room names plan : List ℕ) (at n : ℕ) (f : Sofar head room₀ room names plan at n) (short : length head ≤ 32768) (more : at < length head) (end : ℕ) (is : end ≡ end_from 10 head at) (u : List ℕ)
     (r : entries.Entry) (read : ReadBy head names plan (take (end - at) (drop at head)) (take (end - at) (drop at room)) u r) where

@@ -8,7 +8,6 @@ use lib.Dec.{eqb, leb}
 use lib.ListN.{length, length-append}
 use borrow.Author.Tests.{eqb-true, ne_eqb, leb-true}
 use Rattle.tree.specs.Tree.{Tree}
-use Rattle.tree.specs.Tree as tree
 use Rattle.syntax.specs.Symbol.{question, colon, open_round, close_round, open_square, close_square, comma, dot, word, is, is_literal, is_index, is_word, is_prefix, precedence_of, levels, has_precedence}
 use Rattle.syntax.specs.Symbol as symbol
 use Rattle.syntax.specs.Grammar.{Nonterminal, expression, binary, unary, postfix, primary, arguments, TreeOf, ‹◌›, Derives}

@@ -13,7 +13,7 @@ use Rattle.lexer.specs.Bytes.{ascii}
 use Rattle.lexer.specs.Punctuator.{punctuators}
 use Rattle.lexer.specs.Spelling.{Spells, Munch}
 use Rattle.lexer.specs.Token.{literal_words, lexeme_at}
-use Rattle.lexer.specs.Tokens.{Placed, placed, token_of, tokens}
+use Rattle.lexer.specs.Tokens.{Placed, placed, token_of}
 use Rattle.lexer.specs.declared.token.Token.{Token}
 use Rattle.lexer.specs.declared.token.Lexeme.{Lexeme}
 use Rattle.lexer.specs.declared.token.Lexeme.TheVariants.{Found, Bad, End}

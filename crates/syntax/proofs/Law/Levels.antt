@@ -9,7 +9,7 @@ use lib.ListN.{length}
 use borrow.Author.Tests.{eq-eqb, ne_eqb, eqb-true, ltb-true, ltb-false}
 use Rattle.tree.specs.Tree.{Tree, literal, variable, unary, binary, bare, call, last, next}
 use Rattle.tree.specs.Slots.{Shape, between, root, lay, put, join, shape_of, shapes_of, question_tag, colon_tag, operator_tag, function_tag, variable_tag, comma_tag}
-use Rattle.syntax.specs.Symbol.{symbol_at, is, question, colon, comma, close_round, end, is_literal, form_of, is_prefix, precedence_of, function_of}
+use Rattle.syntax.specs.Symbol.{symbol_at, is, question, colon, comma, close_round, is_literal, form_of, is_prefix, precedence_of, function_of}
 use Rattle.syntax.specs.Parser.{Result, part, refused, and_then, ask, closed, Branches, branches, chosen, in_text, expression_from}
 use Rattle.syntax.specs.Parser.{branches_from, level_from, tail_from, unary_from, postfix_from, picks_from, primary_from, call_from}
 use Rattle.syntax.specs.Parser.{arguments_from}

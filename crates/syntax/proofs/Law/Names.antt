@@ -8,12 +8,10 @@ use native.Mathlib.Omega.{arith}
 use lib.Dec.{ltb}
 use lib.ListN.{take, length-take, drop_of_length-le}
 use types.Run.{OneOf}
-use denote.Enum.Declared.{tag_of}
 use borrow.Author.Tests.{ltb-true, ltb-false, lt-ltb, le-ltb}
 use Rattle.lexer.specs.Token.{meaning, string_meaning}
 use Rattle.colour.specs.Text.{colour_of}
 use Rattle.colour.specs.declared.text.Named.TheVariants.{Unknown}
-use Rattle.tree.specs.contracts.node.Node.{the_type}
 use Rattle.tree.specs.Tree.{Tree, Arguments}
 use Rattle.tree.specs.Node.{node_at, argument_at, argued, arguments_at, grown, most_commas, tree_at}
 use Rattle.tree.specs.declared.node.Node.{Node}

@@ -5,7 +5,7 @@ use mathlib.Core.Bool.{Bool, true, false}
 use Prim.Native.Nat.{ℕ}
 use lib.Dec.{eqb}
 use borrow.Author.Tests.{eq-eqb, ne_eqb}
-use Rattle.syntax.specs.Symbol.{symbol_at, is, end}
+use Rattle.syntax.specs.Symbol.{symbol_at, end}
 use Rattle.syntax.specs.Parser.{Result, part, refused, and_then, ask, at_end, on_next, followed, in_text}
 use Rattle.syntax.specs.Inner.{Follows}
 use Rattle.syntax.specs.declared.symbol.Symbol.{Symbol}

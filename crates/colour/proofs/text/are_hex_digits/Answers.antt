@@ -1,4 +1,3 @@
-use Rattle.std.proofs.Common.{rules}
 use Rattle.colour.proofs.text.are_hex_digits.Goals as goal
 
 pub returns : goal.returns

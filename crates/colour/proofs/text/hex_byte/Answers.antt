@@ -1,5 +1,4 @@
 use native.Mathlib.Omega.{arith}
-use Rattle.std.proofs.Common.{rules}
 use Rattle.colour.proofs.Law.Texts.{small}
 use Rattle.colour.proofs.text.hex_byte.Goals as goal
 

@@ -1,6 +1,5 @@
 use mathlib.Core.Path.{sym, ◌∙◌}
 use native.Mathlib.Omega.{arith}
-use Rattle.std.proofs.Common.{rules}
 use Rattle.colour.proofs.text.hex_value.Goals as goal
 
 pub returns-then-is_digit : goal.returns-then-is_digit

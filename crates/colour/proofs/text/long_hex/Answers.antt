@@ -1,6 +1,5 @@
 use mathlib.Core.Path.{◌≡◌, sym}
 use mathlib.Core.Bool.{true, ◌&&◌}
-use Rattle.std.proofs.Common.{rules}
 use Rattle.lexer.specs.Bytes.{is_hex_digit}
 use Rattle.colour.specs.Text.{long_hex}
 use Rattle.colour.proofs.Law.Texts.{long-is}

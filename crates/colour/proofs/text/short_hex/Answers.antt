@@ -1,7 +1,6 @@
 use mathlib.Core.Path.{◌≡◌, sym}
 use mathlib.Core.Bool.{true, ◌&&◌}
 use native.Mathlib.Omega.{arith}
-use Rattle.std.proofs.Common.{rules}
 use Rattle.lexer.specs.Bytes.{is_hex_digit}
 use Rattle.colour.specs.Text.{short_hex}
 use Rattle.colour.proofs.Law.Texts.{small, short-is}

@@ -1,5 +1,4 @@
 use Rattle.number.specs.Arithmetic.{clamp_of}
-use Rattle.std.proofs.Common.{rules}
 use Rattle.number.proofs.arithmetic.clamp.Goals as goal
 
 pub returns : goal.returns

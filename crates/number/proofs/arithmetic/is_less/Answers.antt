@@ -1,5 +1,4 @@
 use Rattle.number.specs.Arithmetic.{less}
-use Rattle.std.proofs.Common.{rules}
 use Rattle.number.proofs.arithmetic.is_less.Goals as goal
 
 pub returns-then-x-y : goal.returns-then-x-y

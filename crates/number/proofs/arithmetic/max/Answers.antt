@@ -1,6 +1,5 @@
 use Rattle.number.proofs.Law.Arithmetic.{some_nan, other-nan, no_nan}
 use Rattle.number.specs.Arithmetic.{max_of}
-use Rattle.std.proofs.Common.{rules}
 use Rattle.number.proofs.arithmetic.max.Goals as goal
 
 pub returns-then-x : goal.returns-then-x

@@ -1,7 +1,7 @@
 use Rattle.number.proofs.Law.Compare.{only_nan}
 use lib.Ieee.Bits.{nan_bits_above, nan_bits_is}
 use lib.Ieee.{of_bits, div, binary64}
-use Rattle.std.proofs.Common.{Bool, not, T, sym, ◌∙◌, subst, rules, le-ltb, lt-ltb}
+use Rattle.std.proofs.Common.{Bool, not, T, sym, ◌∙◌, subst, le-ltb, lt-ltb}
 use Rattle.number.proofs.bits.from_bits.Goals as goal
 
 -- `from_bits` is the number of a pattern; what is above the infinities is a NaN.

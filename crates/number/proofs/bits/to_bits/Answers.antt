@@ -1,7 +1,7 @@
 use Rattle.number.proofs.Law.Compare.{nan_is}
 use lib.Ieee.Compare.{differs_from_itself}
 use lib.Ieee.{to_bits, binary64}
-use Rattle.std.proofs.Common.{Bool, not, T, sym, ap, ◌∙◌, subst, rules}
+use Rattle.std.proofs.Common.{Bool, not, T, sym, ap, ◌∙◌, subst}
 use Rattle.number.proofs.bits.to_bits.Goals as goal
 
 -- `to_bits` is the pattern of a number, and the one pattern of a NaN.

@@ -1,4 +1,4 @@
-use Rattle.std.proofs.Common.{◌≡◌, ◌+◌, ◌*◌, ◌/◌, ◌^◌, ◌<◌, ◌∙◌, arith, rules}
+use Rattle.std.proofs.Common.{◌≡◌, ◌+◌, ◌*◌, ◌/◌, ◌^◌, ◌<◌, ◌∙◌, arith}
 use lib.Ieee.{of_bits}
 use Rattle.number.specs.Colour.{byte_of}
 use Rattle.number.proofs.Law.Colour.{byte_low, byte_high, byte-range, byte-middle, long}

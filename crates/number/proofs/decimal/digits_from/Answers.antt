@@ -1,6 +1,4 @@
-use Rattle.std.proofs.Common.{◌≡◌, ◌-◌, length, drop, sym, refl, ◌∙◌, arith, rules}
-use borrow.Author.Tests.{not-true, not-false}
-use Rattle.number.specs.Inner.{digits_from}
+use Rattle.std.proofs.Common.{sym, refl, ◌∙◌, arith}
 use Rattle.number.proofs.Law.Reading.{from-digit, from-other, from_past}
 use Rattle.number.proofs.decimal.digits_from.Goals as goal
 

@@ -1,7 +1,5 @@
-use Rattle.std.proofs.Common.{◌≡◌, ◌-◌, length, drop, sym, refl, ◌∙◌, arith, rules}
-use borrow.Author.Tests.{not-true, not-false}
+use Rattle.std.proofs.Common.{◌≡◌, ◌-◌, length, drop}
 use Rattle.number.specs.Inner.{digits_from}
-use Rattle.number.proofs.Law.Reading.{from-digit, from-other, from_past}
 use Rattle.number.proofs.decimal.digits_from.Given as goal
 
 -- `digits_from` reads the digits at a place. The invariant: what is read from the present place on, after the digits so far, is what is read from the first place on.

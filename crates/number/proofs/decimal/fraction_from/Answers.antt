@@ -1,4 +1,3 @@
-use Rattle.std.proofs.Common.{rules}
 use Rattle.number.proofs.Law.Reading.{fraction-some, fraction-none, fraction-other, fraction-past}
 use Rattle.number.proofs.decimal.fraction_from.Goals as goal
 

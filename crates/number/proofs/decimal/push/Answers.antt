@@ -1,4 +1,3 @@
-use Rattle.std.proofs.Common.{rules}
 use Rattle.number.proofs.Law.Reading.{pushed_more, pushed-other, pushed-full}
 use Rattle.number.proofs.decimal.push.Goals as goal
 

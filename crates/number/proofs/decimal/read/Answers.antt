@@ -1,4 +1,3 @@
-use Rattle.std.proofs.Common.{rules}
 use Rattle.number.proofs.Law.Reading.{read-nothing, read_number, read-long}
 use Rattle.number.proofs.decimal.read.Goals as goal
 

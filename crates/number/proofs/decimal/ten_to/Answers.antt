@@ -1,4 +1,4 @@
-use Rattle.std.proofs.Common.{◌≡◌, ◌-◌, ◌≤◌, refl, ap, ◌∙◌, add-one, arith}
+use Rattle.std.proofs.Common.{refl, ap, ◌∙◌, add-one, arith}
 use lib.Ieee.{of_bits}
 use Rattle.number.specs.Decimal.{ten_to}
 use Rattle.number.proofs.decimal.ten_to.Goals as goal

@@ -1,4 +1,3 @@
-use Rattle.std.proofs.Common.{rules}
 use Rattle.number.specs.Decimal.{value_of}
 use Rattle.number.proofs.decimal.value.Goals as goal
 

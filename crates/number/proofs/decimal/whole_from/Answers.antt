@@ -1,4 +1,4 @@
-use Rattle.std.proofs.Common.{◌∙◌, ⊎_elim, rules}
+use Rattle.std.proofs.Common.{◌∙◌}
 use Rattle.number.proofs.Law.Reading.{whole-nought, whole-digits, whole-past}
 use Rattle.number.proofs.decimal.whole_from.Goals as goal
 use Rattle.number.proofs.decimal.whole_from.Goals.{then-at-text+else-text-at-eq48, else-at-text}

@@ -1,4 +1,4 @@
-use Rattle.std.proofs.Common.{◌^◌, ◌<◌, arith, rules}
+use Rattle.std.proofs.Common.{◌^◌, ◌<◌, arith}
 use lib.Ieee.{of_bits}
 use Rattle.number.proofs.Law.Rounding.{truncates, part-below, in-format, around-large, around-whole, around-apart}
 use Rattle.number.proofs.rounding.around.Goals as goal

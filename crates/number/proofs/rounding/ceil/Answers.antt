@@ -1,4 +1,3 @@
-use Rattle.std.proofs.Common.{rules}
 use Rattle.number.specs.Rounding.{ceil_of}
 use Rattle.number.proofs.rounding.ceil.Goals as goal
 

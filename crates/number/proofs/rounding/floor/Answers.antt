@@ -1,4 +1,3 @@
-use Rattle.std.proofs.Common.{rules}
 use Rattle.number.proofs.Law.Rounding.{floor-picks}
 use Rattle.number.proofs.rounding.floor.Goals as goal
 

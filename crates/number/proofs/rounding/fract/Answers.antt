@@ -1,4 +1,3 @@
-use Rattle.std.proofs.Common.{rules}
 use Rattle.number.specs.Rounding.{fract_of}
 use Rattle.number.proofs.rounding.fract.Goals as goal
 

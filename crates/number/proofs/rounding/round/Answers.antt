@@ -1,4 +1,3 @@
-use Rattle.std.proofs.Common.{rules}
 use Rattle.number.proofs.Law.Rounding.{round-picks}
 use Rattle.number.proofs.rounding.round.Goals as goal
 

@@ -1,4 +1,3 @@
-use Rattle.std.proofs.Common.{rules}
 use Rattle.syntax.proofs.Law.Whole.{grammar-bad, grammar-goes}
 use Rattle.syntax.proofs.judge.grammar_judgement.Goals as goal
 

@@ -1,4 +1,3 @@
-use Rattle.std.proofs.Common.{rules}
 use mathlib.Core.Path.{sym, ◌∙◌, ap}
 use Rattle.syntax.specs.Judge.{answer_of}
 use Rattle.syntax.proofs.Law.Whole.{kept_fine, kept-refused}

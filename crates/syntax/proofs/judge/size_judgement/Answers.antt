@@ -1,4 +1,3 @@
-use Rattle.std.proofs.Common.{rules}
 use mathlib.Core.Path.{sym, ◌∙◌, ap}
 use Rattle.lexer.specs.Scan.{answer_of}
 use Rattle.syntax.proofs.Law.Whole.{size-over, tokens-bad, tokens-fine}

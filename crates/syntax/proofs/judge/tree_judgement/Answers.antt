@@ -1,5 +1,3 @@
-use Rattle.std.proofs.Common.{rules}
-use borrow.Author.Tests.{not-true, not-false}
 use Rattle.syntax.proofs.judge.tree_judgement.Goals as goal
 
 pub returns-then-not-is_within : goal.returns-then-not-is_within

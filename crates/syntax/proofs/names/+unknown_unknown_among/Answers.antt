@@ -1,6 +1,4 @@
-use Prim.Native.Nat.{ℕ, ◌+◌, ◌*◌, ◌<◌}
 use mathlib.Core.Path.{sym, ◌∙◌}
-use Rattle.std.proofs.Common.{rules}
 use Rattle.tree.specs.Node.{tree_at}
 use Rattle.syntax.specs.Names.{unknown_in}
 use Rattle.syntax.proofs.Law.Nodes.{arguments-end, arguments-step}

@@ -1,4 +1,3 @@
-use Rattle.std.proofs.Common.{rules}
 use native.Mathlib.Omega.{arith}
 use Rattle.lexer.specs.Token.{meaning}
 use Rattle.lexer.proofs.Law.Spelling.{slice_is}

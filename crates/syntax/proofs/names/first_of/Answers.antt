@@ -1,4 +1,3 @@
-use Rattle.std.proofs.Common.{rules}
 use Rattle.syntax.proofs.names.first_of.Goals as goal
 
 pub returns-in-Last : goal.returns-in-Last

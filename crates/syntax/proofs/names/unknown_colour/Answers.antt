@@ -1,4 +1,3 @@
-use Rattle.std.proofs.Common.{rules}
 use mathlib.Core.Path.{sym, ◌∙◌}
 use Rattle.tree.specs.Node.{tree_at}
 use Rattle.syntax.proofs.Law.Nodes.{tree-step}

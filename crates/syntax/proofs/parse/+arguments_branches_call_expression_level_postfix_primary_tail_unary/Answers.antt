@@ -1,10 +1,5 @@
-use Prim.Native.Nat.{ℕ, ◌<◌}
-use Rattle.std.proofs.Common.{rules}
-use Prim.Native.Nat.{◌+◌}
-use borrow.Author.Tests.{not-true, not-false}
 use native.Mathlib.Omega.{arith}
 use mathlib.Core.Path.{sym, ◌∙◌}
-use Rattle.syntax.specs.Inner.{steps}
 use Rattle.syntax.proofs.Law.Parts.{ahead-tree}
 use Rattle.syntax.proofs.Law.Levels.{conditionals, pairs, lists, first-bad, second-bad, both, expression-none, branches-none, arguments-last}
 use Rattle.syntax.proofs.Law.Levels.{level-unary, binary-bad, binary-goes, operator-number, tail-ends, tail-bad, tail-goes, prefix-operator, unary-none, unary-bad, unary-goes, postfix-bad, postfix-goes}

@@ -1,5 +1,4 @@
-use Rattle.std.proofs.Common.{rules}
-use borrow.Author.Tests.{eq-eqb, ne_eqb, not-true, not-false}
+use borrow.Author.Tests.{eq-eqb, ne_eqb}
 use Rattle.syntax.specs.Inner.{index_pick_of}
 use Rattle.syntax.proofs.parse.index_pick.Goals as goal
 

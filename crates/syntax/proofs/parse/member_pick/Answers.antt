@@ -1,5 +1,3 @@
-use Rattle.std.proofs.Common.{rules}
-use borrow.Author.Tests.{not-true, not-false}
 use Rattle.syntax.specs.Inner.{member_pick_of}
 use Rattle.syntax.proofs.parse.member_pick.Goals as goal
 

@@ -1,4 +1,3 @@
-use Rattle.std.proofs.Common.{rules}
 use Rattle.syntax.proofs.Law.Symbols.{sound-as}
 use Rattle.syntax.proofs.Law.Whole.{whole-bad, whole-more, whole-goes}
 use Rattle.syntax.proofs.parse.parse.Goals as goal

@@ -1,4 +1,3 @@
-use Rattle.std.proofs.Common.{rules}
 use borrow.Author.Tests.{eq-eqb, ne_eqb}
 use Rattle.syntax.specs.Inner.{picking_of}
 use Rattle.syntax.proofs.parse.pick_at.Goals as goal

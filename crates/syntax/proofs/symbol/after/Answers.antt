@@ -1,4 +1,3 @@
-use Rattle.std.proofs.Common.{rules}
 use Rattle.syntax.proofs.Law.Symbols.{follows-at}
 use Rattle.syntax.proofs.symbol.after.Goals as goal
 

@@ -1,4 +1,3 @@
-use Rattle.std.proofs.Common.{rules}
 use Rattle.syntax.proofs.Law.Symbols.{function-is}
 use Rattle.syntax.proofs.symbol.function.Goals as goal
 

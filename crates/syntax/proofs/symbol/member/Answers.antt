@@ -1,4 +1,3 @@
-use Rattle.std.proofs.Common.{rules}
 use Rattle.syntax.proofs.Law.Symbols.{member_is}
 use Rattle.syntax.proofs.symbol.member.Goals as goal
 

@@ -1,5 +1,4 @@
 use mathlib.Core.Path.{sym, ◌∙◌, ap}
-use Rattle.std.proofs.Common.{rules}
 use Rattle.syntax.specs.Symbol.{number_of}
 use Rattle.syntax.proofs.symbol.number_of.Goals as goal
 

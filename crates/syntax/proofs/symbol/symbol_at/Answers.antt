@@ -1,5 +1,4 @@
 use mathlib.Core.Path.{sym, ◌∙◌}
-use Rattle.std.proofs.Common.{rules}
 use Rattle.syntax.proofs.Law.Symbols.{symbol-is, symbol-found}
 use Rattle.syntax.proofs.symbol.symbol_at.Goals as goal
 

@@ -1,4 +1,3 @@
-use Rattle.std.proofs.Common.{rules}
 use Rattle.value.specs.Meaning.{meaning}
 use Rattle.value.proofs.apply.apply3.Goals as goal
 

@@ -1,4 +1,3 @@
-use Rattle.std.proofs.Common.{rules}
 use Rattle.value.proofs.apply.settled.Goals as goal
 
 pub returns-in-Fault : goal.returns-in-Fault

@@ -1,4 +1,3 @@
-use Rattle.std.proofs.Common.{rules}
 use Rattle.value.specs.Equality.{equal_of}
 use Rattle.value.proofs.equality.equal.Goals as goal
 

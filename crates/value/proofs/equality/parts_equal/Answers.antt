@@ -1,4 +1,3 @@
-use Rattle.std.proofs.Common.{rules}
 use Rattle.value.proofs.equality.parts_equal.Goals as goal
 
 pub returns-in-Boolean : goal.returns-in-Boolean

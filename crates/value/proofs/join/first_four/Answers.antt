@@ -1,4 +1,3 @@
-use Rattle.std.proofs.Common.{rules}
 use Rattle.value.proofs.Law.Values.{four-joined}
 use Rattle.value.proofs.join.first_four.Goals as goal
 

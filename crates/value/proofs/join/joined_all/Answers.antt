@@ -1,4 +1,3 @@
-use Rattle.std.proofs.Common.{rules}
 use mathlib.Core.List.{◌++◌}
 use Rattle.value.specs.Value.{components_of}
 use Rattle.value.proofs.Law.Values.{with_append}

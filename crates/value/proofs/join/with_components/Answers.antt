@@ -1,4 +1,3 @@
-use Rattle.std.proofs.Common.{rules}
 use Rattle.value.proofs.join.with_components.Goals as goal
 
 pub returns-in-Undefined : goal.returns-in-Undefined

@@ -1,4 +1,3 @@
-use Rattle.std.proofs.Common.{rules}
 use Rattle.value.specs.Meaning.{alpha_or}
 use Rattle.value.proofs.make.alpha_or.Goals as goal
 

@@ -1,4 +1,3 @@
-use Rattle.std.proofs.Common.{rules}
 use Rattle.value.proofs.make.by_component.Goals as goal
 
 pub returns-in-Undefined : goal.returns-in-Undefined

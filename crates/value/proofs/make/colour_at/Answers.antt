@@ -1,4 +1,3 @@
-use Rattle.std.proofs.Common.{rules}
 use Rattle.lexer.proofs.Law.Texts.{part_cut}
 use Rattle.value.proofs.make.colour_at.Goals as goal
 

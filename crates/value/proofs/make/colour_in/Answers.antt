@@ -1,4 +1,3 @@
-use Rattle.std.proofs.Common.{rules}
 use Rattle.lexer.specs.Token.{meaning}
 use Rattle.value.specs.Value.{text_in}
 use Rattle.value.proofs.make.colour_in.Goals as goal

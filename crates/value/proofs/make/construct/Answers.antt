@@ -1,4 +1,3 @@
-use Rattle.std.proofs.Common.{rules}
 use Rattle.value.proofs.make.construct.Goals as goal
 
 pub returns-in-Vec2 : goal.returns-in-Vec2

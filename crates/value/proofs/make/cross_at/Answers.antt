@@ -1,4 +1,3 @@
-use Rattle.std.proofs.Common.{rules}
 use Rattle.value.specs.Meaning.{cross_at}
 use Rattle.value.proofs.make.cross_at.Goals as goal
 

@@ -1,4 +1,3 @@
-use Rattle.std.proofs.Common.{rules}
 use lib.Ieee.{of_bits}
 use Rattle.value.specs.Meaning.{dot_of}
 use Rattle.value.proofs.make.dot.Goals as goal

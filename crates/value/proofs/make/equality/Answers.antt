@@ -1,4 +1,3 @@
-use Rattle.std.proofs.Common.{rules}
 use Rattle.value.proofs.make.equality.Goals as goal
 
 pub returns-in-Equal : goal.returns-in-Equal

@@ -1,4 +1,3 @@
-use Rattle.std.proofs.Common.{rules}
 use Rattle.value.proofs.make.logic.Goals as goal
 
 pub returns-in-Not : goal.returns-in-Not

@@ -1,5 +1,4 @@
 use mathlib.Core.Path.{◌∙◌}
-use Rattle.std.proofs.Common.{rules}
 use Rattle.value.proofs.make.make.Goals as goal
 
 pub returns-in-Unary : goal.returns-in-Unary

@@ -1,4 +1,3 @@
-use Rattle.std.proofs.Common.{rules}
 use lib.Ieee.{of_bits, of_int, div, round}
 use Rattle.colour.specs.Colour.{of_bytes, rgb_of, rgba_of}
 use Rattle.value.proofs.make.or_white.Goals as goal

@@ -1,4 +1,3 @@
-use Rattle.std.proofs.Common.{rules}
 use Rattle.value.proofs.make.product.Goals as goal
 
 pub returns-in-Dot : goal.returns-in-Dot

@@ -1,5 +1,4 @@
 use mathlib.Core.Path.{◌∙◌, ap}
-use Rattle.std.proofs.Common.{rules}
 use Rattle.lexer.specs.Bytes.{place_in}
 use Rattle.words.proofs.Law.Words.{as-it-is}
 use Rattle.value.specs.Name.{function_names}

@@ -1,4 +1,3 @@
-use Rattle.std.proofs.Common.{rules}
 use Rattle.value.proofs.Law.Names.{index_below, index-past}
 use Rattle.value.proofs.name.member_index.Goals as goal
 

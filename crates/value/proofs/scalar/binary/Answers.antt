@@ -1,4 +1,3 @@
-use Rattle.std.proofs.Common.{rules}
 use Rattle.value.proofs.scalar.binary.Goals as goal
 
 pub returns-in-Add : goal.returns-in-Add

@@ -1,4 +1,3 @@
-use Rattle.std.proofs.Common.{rules}
 use Rattle.value.proofs.scalar.order.Goals as goal
 
 pub returns-in-Less : goal.returns-in-Less

@@ -1,4 +1,3 @@
-use Rattle.std.proofs.Common.{rules}
 use Rattle.value.proofs.scalar.ternary.Goals as goal
 
 pub returns-in-Clamp : goal.returns-in-Clamp

@@ -1,4 +1,3 @@
-use Rattle.std.proofs.Common.{rules}
 use lib.Ieee.{of_bits, div, neg}
 use Rattle.number.proofs.Law.Compare.{nan_is}
 use Rattle.value.proofs.Law.Values.{between-infinities}

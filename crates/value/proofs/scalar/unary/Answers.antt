@@ -1,4 +1,3 @@
-use Rattle.std.proofs.Common.{rules}
 use Rattle.value.proofs.scalar.unary.Goals as goal
 
 pub returns-in-Plus : goal.returns-in-Plus

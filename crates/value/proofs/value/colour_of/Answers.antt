@@ -1,4 +1,3 @@
-use Rattle.std.proofs.Common.{rules}
 use Rattle.value.specs.Value.{colour_in}
 use Rattle.value.proofs.value.colour_of.Goals as goal
 

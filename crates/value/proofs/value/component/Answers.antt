@@ -1,5 +1,4 @@
 use mathlib.Core.List.{◌∷◌, []}
-use Rattle.std.proofs.Common.{rules}
 use lib.Ieee.{of_bits}
 use Rattle.value.proofs.Law.Values.{padded}
 use Rattle.value.proofs.value.component.Goals as goal

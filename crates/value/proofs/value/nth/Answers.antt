@@ -1,4 +1,3 @@
-use Rattle.std.proofs.Common.{rules}
 use lib.Ieee.{of_bits}
 use Rattle.value.proofs.Law.Values.{past-four}
 use Rattle.value.proofs.value.nth.Goals as goal

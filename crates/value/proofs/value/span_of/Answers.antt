@@ -1,4 +1,3 @@
-use Rattle.std.proofs.Common.{rules}
 use Rattle.value.proofs.value.span_of.Goals as goal
 
 pub returns-in-Undefined : goal.returns-in-Undefined

@@ -1,4 +1,3 @@
-use Rattle.std.proofs.Common.{rules}
 use Rattle.colour.specs.Colour.{clamped_of, bytes_of}
 use Rattle.colour.proofs.colour.Colour.bytes.Goals as goal
 

@@ -1,4 +1,3 @@
-use Rattle.std.proofs.Common.{rules}
 use Rattle.colour.specs.Colour.{clamped_of}
 use Rattle.colour.proofs.colour.Colour.clamped.Goals as goal
 

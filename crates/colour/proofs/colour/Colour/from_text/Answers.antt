@@ -1,5 +1,4 @@
 use mathlib.Core.Path.{sym, ◌∙◌, ap}
-use Rattle.std.proofs.Common.{rules}
 use Rattle.colour.specs.Text.{colour_at, colour_of}
 use Rattle.colour.proofs.colour.Colour.from_text.Goals as goal
 

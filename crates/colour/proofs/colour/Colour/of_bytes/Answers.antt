@@ -1,4 +1,3 @@
-use Rattle.std.proofs.Common.{rules}
 use Rattle.colour.specs.Colour.{of_bytes}
 use Rattle.colour.proofs.colour.Colour.of_bytes.Goals as goal
 

@@ -1,4 +1,3 @@
-use Rattle.std.proofs.Common.{rules}
 use lib.Ieee.{of_bits}
 use Rattle.colour.specs.Colour.{rgb_of}
 use Rattle.colour.proofs.colour.Colour.rgb.Goals as goal

@@ -1,0 +1,8 @@
+use Rattle.printed.specs.Shown.{index_of, digit_of}
+use Rattle.output.proofs.Law.Pages.{and_then}
+use Rattle.printed.proofs.shown.variable.Goals as goal
+
+pub returns : goal.returns
+unfolding index_of digit_of
+returns c =
+    and_then _ _ _ c.byte-end.ensures (and_then _ _ _ c.word-end.ensures c.word.ensures)
