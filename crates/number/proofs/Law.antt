@@ -7,3 +7,4 @@ pub mod Integers
 pub mod Colour
 pub mod Reading
 pub mod Remainder
+pub mod Units

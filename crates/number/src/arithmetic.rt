@@ -4,7 +4,9 @@ ghost use Rattle.std.specs.Float.Ieee.{rem};
 ghost use Rattle.std.specs.Float.{binary64};
 ghost use Rattle.number.specs.Arithmetic.{abs_of, sign_of, negative_zero, less, min_of, max_of, clamp_of, mix_of};
 
+use crate::bits::to_bits;
 use crate::choice::pick;
+use crate::units::{SPECIAL, digits, exponent, is_negative, number, place, reduced};
 
 // The sign cleared.
 pub fn abs(x: f64) -> f64
@@ -92,9 +94,28 @@ pub fn mix(x: f64, y: f64, a: f64) -> f64
     x * (1.0 - a) + y * a
 }
 
-// ECMAScript's `%`: exact, with the sign of x.
+// ECMAScript's `%`: exact, with the sign of x. It is worked out on the digits that the patterns of the
+// two have, since C's `fmod` is not the same function in every C library.
 pub fn remainder(x: f64, y: f64) -> f64
     ensures { result ≡ rem binary64 x y }
 {
-    x % y
+    let a = to_bits(x);
+    let b = to_bits(y);
+    if exponent(a) == SPECIAL {
+        return 0.0 / 0.0;
+    }
+    if exponent(b) == SPECIAL {
+        return if y != y { y } else { x };
+    }
+    let n = digits(b);
+    if n == 0 {
+        return 0.0 / 0.0;
+    }
+    let i = place(a);
+    let j = place(b);
+    if i < j {
+        number(is_negative(a), digits(a), i)
+    } else {
+        number(is_negative(a), reduced(digits(a), n, i - j), j)
+    }
 }

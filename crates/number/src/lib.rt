@@ -9,3 +9,4 @@ mod choice;
 pub mod colour;
 pub mod decimal;
 pub mod rounding;
+mod units;

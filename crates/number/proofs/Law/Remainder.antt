@@ -71,7 +71,7 @@ record Few (r : ℕ) : Type 0 where
   limit : q * 2 ^ t < 2 ^ 2098
   is : r ≡ q * 2 ^ t
 
-split-power : (n i j : ℕ) → i ≤ j → n * 2 ^ j ≡ n * 2 ^ (j - i) * 2 ^ i
+pub split-power : (n i j : ℕ) → i ≤ j → n * 2 ^ j ≡ n * 2 ^ (j - i) * 2 ^ i
 split-power n i j h = ap (λ (k : ℕ). n * 2 ^ k) (sym (sub-add_cancel h)) ∙ ap (λ (z : ℕ). n * z) (pow-add 2 (j - i) i) ∙ sym (mul_assoc n (2 ^ (j - i)) (2 ^ i))
 
 few : (m n i j : ℕ) → 0 < n → m < 2 ^ 53 → n < 2 ^ 53 → m * 2 ^ i < 2 ^ 2098 → n * 2 ^ j < 2 ^ 2098 → Few (m * 2 ^ i % (n * 2 ^ j))
