@@ -95,7 +95,7 @@ pub fn mix(x: f64, y: f64, a: f64) -> f64
 }
 
 // ECMAScript's `%`: exact, with the sign of x. It is worked out on the digits that the patterns of the
-// two have, since C's `fmod` is not the same function in every C library.
+// two have: a program that calls the `fmod` of a newer C library doesn't start with an older one.
 pub fn remainder(x: f64, y: f64) -> f64
     ensures { result ≡ rem binary64 x y }
 {
