@@ -60,6 +60,10 @@ field_of text = 9 ∷ text
 abbrev pub ending : List ℕ
 ending = 10 ∷ []
 
+-- `strip→show→colour`
+unfoldable pub heading : List ℕ
+heading = ascii "strip" ++ (field_of (ascii "show") ++ (field_of (ascii "colour") ++ ending))
+
 -- `1→true→#00FF0080`
 unfoldable pub painted_line : ℕ → Bool → Colouring → List ℕ
 painted_line number show colouring = decimal number ++ (field_of (truth_text show) ++ (field_of (colouring_text colouring) ++ ending))

@@ -2,7 +2,7 @@
 ghost use Rattle.std.specs.Prelude.{◌≡◌};
 ghost use Rattle.output.specs.Page.{written};
 ghost use Rattle.output.specs.Line.{front, decimal_digit, digits_of, decimal, hex_digit, hex_byte, colour_text, colouring_text, truth_text};
-ghost use Rattle.output.specs.Line.{field_of, painted_line, refused_feature, refused_head};
+ghost use Rattle.output.specs.Line.{field_of, heading, painted_line, refused_feature, refused_head};
 
 use crate::page;
 use colour::colour::{Colour, Colouring};
@@ -135,6 +135,13 @@ fn refused_head_on(page: &mut [u8], number: u8, line: usize, place: usize) -> us
     end = number_field(page, end, line);
     end = number_field(page, end, place);
     page::byte(page, end, b'\n')
+}
+
+// The first line.
+pub fn heading_line(out: &mut [u8]) -> usize
+    ensures { (out.new, result) ≡ front out.old heading }
+{
+    to_front(out, b"strip\tshow\tcolour\n")
 }
 
 // The line of a feature that is accepted. Its length is the answer, or 0 if it doesn't fit.

@@ -18,12 +18,12 @@ use Rattle.painter.specs.Applied.{Arrays, compiled, given_under}
 use Rattle.painter.proofs.Order.{paint-style}
 use Rattle.painter.proofs.Law.Calls.{compiled-given}
 
-line-fits : (number : ℕ) (a : Answer Given) → length (feature_line number a) ≤ longest_line
+pub line-fits : (number : ℕ) (a : Answer Given) → length (feature_line number a) ≤ longest_line
 line-fits number (refusal line r) = refused-feature-page number r.number r.place
 line-fits number (accepted given) = painted-page number given.show given.colouring
 
 -- where any line fits
-printed-whole : (number : ℕ) (a : Answer Given) (out : List ℕ) → longest_line ≤ length out →
+pub printed-whole : (number : ℕ) (a : Answer Given) (out : List ℕ) → longest_line ≤ length out →
     front out (feature_line number a) ≡ (feature_line number a ++ drop (length (feature_line number a)) out, length (feature_line number a))
 unfolding front
 printed-whole number a out h = taken (out, 0) (le-leb (length (feature_line number a)) (length out) (omega (arith, h, line-fits number a))) refl
