@@ -1,13 +1,14 @@
 -- What is printed of a block of features, and what is left of it.
 use Rattle.std.specs.Prelude.{Bool, cond, ◌&&◌, ◌||◌, not, List, [], ◌∷◌, ◌++◌, ℕ, suc, ◌+◌, ◌-◌, ◌≤◌, ◌<◌, min, max, eqb, ltb, leb, length, take, drop, replicate}
-use Rattle.number.specs.Arithmetic.{nought}
 use Rattle.lexer.specs.Bytes.{run}
-use Rattle.plan.specs.Layout.{spans_size, floats_size}
+use Rattle.value.specs.declared.value.Value.{Value}
+use Rattle.value.specs.declared.value.Value.TheVariants.{Undefined}
+use Rattle.plan.specs.Layout.{undeclared}
 use Rattle.text.specs.Parts.{lines, bytes_of}
 use Rattle.feature.specs.Feature.{feature_size}
 use Rattle.output.specs.Line.{longest_line}
 use Rattle.painter.specs.Paint.{feature_line}
-use Rattle.painter.specs.Applied.{Arrays, source, given_under, arrays_after}
+use Rattle.painter.specs.Applied.{source, given_under, given_values}
 use Rattle.blocks.specs.Ledger.{last_number}
 use Rattle.blocks.specs.declared.features.Progress.{Progress}
 
@@ -18,26 +19,28 @@ abbrev pub whole_lines : Bool → ℕ → List (List ℕ) → List (List ℕ)
 whole_lines ends size [] = []
 whole_lines ends size (l ∷ ls) = cond (ltb (length l) size || ends) (l ∷ whole_lines ends (size - suc (length l)) ls) []
 
--- what is printed for lines from a number on; the arrays for the values are lent to each in turn
-abbrev pub texts_by : (ℕ → List ℕ → Arrays → List ℕ) → (ℕ → List ℕ → Arrays → Arrays) → ℕ → Arrays → List (List ℕ) → List (List ℕ)
-texts_by say after n a [] = []
-texts_by say after n a (l ∷ ls) = say n l a ∷ texts_by say after (suc n) (after n l a) ls
+-- what is printed for lines from a number on; the values of names are lent to each in turn
+abbrev pub texts_by : (ℕ → List ℕ → List Value → List ℕ) → (ℕ → List ℕ → List Value → List Value) → ℕ → List Value → List (List ℕ) →
+    List (List ℕ)
+texts_by say after n values [] = []
+texts_by say after n values (l ∷ ls) = say n l values ∷ texts_by say after (suc n) (after n l values) ls
 
 -- as many as fit into so much room; one that might not is not begun
 abbrev pub fitting : ℕ → List (List ℕ) → List (List ℕ)
 fitting room [] = []
 fitting room (t ∷ ts) = cond (leb longest_line room) (t ∷ fitting (room - length t) ts) []
 
-abbrev pub no_values : Arrays
-no_values = (replicate spans_size 0, replicate floats_size nought)
+abbrev pub no_values : List Value
+no_values = replicate undeclared Undefined
 
 -- The lines that are printed of a block: head, plan, room, block, the first line's number, whether the input ends with the block, and how
 -- much the output holds.
 unfoldable pub printed_of : List ℕ → List ℕ → List ℕ → List ℕ → ℕ → Bool → ℕ → List (List ℕ)
-unfolding given_under arrays_after
+unfolding given_under given_values
 printed_of head plan room block first ends size =
     fitting size
-    (texts_by (λ n l a. feature_line n (given_under (source head l room plan) n a)) (λ n l a. arrays_after (source head l room plan) n a) first no_values
+    (texts_by (λ n l values. feature_line n (given_under (source head l room plan) n values))
+    (λ n l values. given_values (source head l room plan) n values) first no_values
     (take (suc last_number - first) (whole_lines ends (length block) (lines block))))
 
 -- ---- the output and the state behind them

@@ -8,6 +8,7 @@ use Rattle.style.specs.Head.{room_size, style_of}
 use Rattle.feature.specs.Feature.{most_features}
 use Rattle.output.specs.Line.{heading, refused_head}
 use Rattle.painter.specs.Paint.{given_answer, feature_line}
+use Rattle.lexer.specs.Refusal.{reason_number}
 
 -- ---- the lines of the features
 
@@ -28,7 +29,7 @@ line_by s n l = feature_line n (given_answer s n l)
 
 -- "A refused head prints the heading line, then `refused`, number, line, place, parted by tabs."
 abbrev pub behind_heading : Answer Style → List ℕ → List ℕ
-behind_heading (refusal line r) features = refused_head r.number line r.place
+behind_heading (refusal line r) features = refused_head (reason_number r.reason) line r.place
 behind_heading (accepted s) features = numbered (line_by s) 1 (lines features)
 
 -- "Everything before the first line whose first field is `feat` is the head; every line from there on is a strip."

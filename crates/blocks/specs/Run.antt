@@ -1,5 +1,5 @@
 -- A run of the program as the calls of this library see it, and what it prints: the bytes of an input come in pieces, however it is cut.
-use Rattle.std.specs.Prelude.{◌≡◌, Bool, true, false, List, [], ◌++◌, ℕ, ◌+◌, ◌<◌, ◌≤◌, length, take, drop}
+use Rattle.std.specs.Prelude.{◌≡◌, Bool, true, false, List, [], ◌++◌, ℕ, ◌+◌, ◌<◌, ◌≤◌, length, take, drop, Ok, Err}
 use Rattle.lexer.specs.declared.refusal.Refusal.{Refusal}
 use Rattle.text.specs.Head.{head_end}
 use Rattle.style.specs.Answer.{refusal, accepted}
@@ -9,14 +9,14 @@ use Rattle.output.specs.Line.{heading, refused_head, longest_line}
 use Rattle.blocks.specs.Ledger.{last_number, ledger_of}
 use Rattle.blocks.specs.Opening.{search_of}
 use Rattle.blocks.specs.Block.{printed_of, progress_of, joined}
+use Rattle.lexer.specs.Refusal.{reason_number}
 
 -- ---- the head is looked for
 
 -- a window as far as it is read, and the place up to which its lines are known to be of the head
 pub data Opened : List ℕ → ℕ → Type 0 where
   nothing : Opened [] 0
-  more : {w : List ℕ} {from : ℕ} → Opened w from → (new : List ℕ) → (search_of (w ++ new) from).found ≡ false →
-      Opened (w ++ new) (search_of (w ++ new) from).at
+  more : {w : List ℕ} {from at : ℕ} → Opened w from → (new : List ℕ) → search_of (w ++ new) from ≡ Err at → Opened (w ++ new) at
 
 -- more than a head may have, and the word of the line behind it
 abbrev pub window_size : ℕ
@@ -25,7 +25,7 @@ window_size = head_size + 5
 -- The window is read as far as it has to be, and these bytes are still to come: a feature's line is found, the input ends, or the window is
 -- longer than a head may be.
 pub data Whole : List ℕ → List ℕ → Type 0 where
-  found : {w : List ℕ} {from : ℕ} → Opened w from → (new rest : List ℕ) → (search_of (w ++ new) from).found ≡ true → Whole (w ++ new) rest
+  found : {w : List ℕ} {from at : ℕ} → Opened w from → (new rest : List ℕ) → search_of (w ++ new) from ≡ Ok at → Whole (w ++ new) rest
   ended : (w : List ℕ) → Whole w []
   full : (w rest : List ℕ) → window_size ≤ length w → Whole w rest
 
@@ -75,7 +75,7 @@ abbrev pub RefusedPrinted : Type 0
 RefusedPrinted =
     (w rest room : List ℕ) → room_size ≤ length room → Whole w rest → (line : ℕ) (r : Refusal) →
     checked_of (length room) (head_in w) ≡ refusal line r →
-    heading ++ refused_head r.number line r.place ≡ ledger_of (w ++ rest)
+    heading ++ refused_head (reason_number r.reason) line r.place ≡ ledger_of (w ++ rest)
 
 -- an accepted one: what the calls print, by the plan and the room that `compile` leaves, however the input is cut
 abbrev pub FeaturesPrinted : Type 0

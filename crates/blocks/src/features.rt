@@ -1,17 +1,14 @@
 // The features of a block, each a line, printed one behind the other.
 ghost use Rattle.std.specs.Prelude.{◌≡◌, ◌+◌, ◌≤◌, length};
-ghost use Rattle.output.specs.Line.{front};
-ghost use Rattle.painter.specs.Paint.{feature_line};
-ghost use Rattle.painter.specs.Applied.{source, given_under, arrays_after};
 ghost use Rattle.blocks.specs.Block.{is_whole, is_next, left_from, printed_of, progress_of, on_page, Advances};
 
-use lexer::bytes::least;
 use output::line::LONGEST;
 use painter::given::given;
 use painter::print;
-use plan::layout::{FLOATS, Floats, Plan, SPANS, Spans};
+use plan::layout::{Plan, UNDECLARED};
 use text::part;
 use text::part::LINE_FEED;
+use value::value::Value;
 
 // The first number that is refused. Nothing is printed behind its line.
 pub const LAST: usize = 1_000_000;
@@ -20,7 +17,7 @@ pub const LAST: usize = 1_000_000;
 const TOO_LONG: usize = 4097;
 
 // How far a block is printed.
-#[derive(Clone, Copy)]
+#[derive(Clone, Copy, Debug, PartialEq, Eq)]
 pub struct Progress {
     // Where those of its bytes begin that are left.
     pub at: usize,
@@ -34,14 +31,14 @@ pub struct Progress {
 fn is_whole(at: usize, end: usize, size: usize, ends: bool) -> bool
     ensures { result ≡ is_whole at end size ends }
 {
-    (at < size) & ((end < size) | ends)
+    at < size && (end < size || ends)
 }
 
 // Whether a line is printed next: it is whole, and there is a number and room for it.
 fn is_next(whole: bool, number: usize, room: usize) -> bool
     ensures { result ≡ is_next whole number room }
 {
-    whole & ((number <= LAST) & (LONGEST <= room))
+    whole && number <= LAST && LONGEST <= room
 }
 
 // Where the bytes begin that are left, if the next line begins at a place and is not printed. Of one
@@ -50,39 +47,16 @@ fn left_from(at: usize, end: usize, size: usize) -> usize
     ensures { result ≡ left_from at end size }
 {
     if end < size {
-        return at;
+        at
+    } else {
+        size - size.saturating_sub(at).min(TOO_LONG)
     }
-    if size <= at {
-        return size;
-    }
-    size - least(size - at, TOO_LONG)
-}
-
-// The line of a feature at the front of the output: how many bytes it has.
-fn line(
-    head: &[u8],
-    plan: &Plan,
-    room: &[u16],
-    feature: &[u8],
-    number: usize,
-    out: &mut [u8],
-    spans: &mut Spans,
-    floats: &mut Floats,
-) -> usize
-    ensures is { (out.new, result) ≡ front out.old (feature_line number (given_under
-        (source head.now feature.now room.now plan.now) number
-        (spans.old, floats.old))) }
-    ensures arrays { (spans.new, floats.new) ≡ arrays_after
-        (source head.now feature.now room.now plan.now) number
-        (spans.old, floats.old) }
-    ensures inside { result ≤ length out.old }
-{
-    let drawn = given(head, plan, room, feature, number, spans, floats);
-    print::line(drawn, number, out)
 }
 
 // Prints the lines of a block, by the plan and the room that `compile` leaves of a head: those that are
-// whole and fit, from a number on. What is left of the block comes first in the next one.
+// whole and fit, from a number on. What is left of the block comes first in the next one. Parameters by
+// themselves and no struct, as callers in C will have them; by places and no iterator of lines, since what
+// is left begins at a place.
 pub fn lines(
     head: &[u8],
     plan: &Plan,
@@ -98,34 +72,24 @@ pub fn lines(
         head.now plan.now room.now block.now first ends (length out.old)) }
     ensures advances { Advances block.now out.old first result }
 {
-    let mut spans = [0usize; SPANS];
-    let mut floats = [0.0f64; FLOATS];
+    let mut values = [Value::Undefined; UNDECLARED];
     let mut at = 0;
-    let mut end = part::end(LINE_FEED, block, at);
     let mut number = first;
     let mut printed = 0;
-    while is_next(
-        is_whole(at, end, block.len(), ends),
-        number,
-        out.len() - printed,
-    ) {
-        printed += line(
-            head,
-            plan,
-            room,
-            &block[at..end],
-            number,
-            &mut out[printed..],
-            &mut spans,
-            &mut floats,
-        );
+    loop {
+        let end = part::end(LINE_FEED, block, at);
+        let whole = is_whole(at, end, block.len(), ends);
+        if !is_next(whole, number, out.len() - printed) {
+            return Progress {
+                at: left_from(at, end, block.len()),
+                number,
+                printed,
+            };
+        }
+        let line = &block[at..end];
+        let drawn = given(head, plan, room, line, number, &mut values);
+        printed += print::line(drawn, number, &mut out[printed..]);
         number += 1;
         at = end + 1;
-        end = part::end(LINE_FEED, block, at);
-    }
-    Progress {
-        at: left_from(at, end, block.len()),
-        number,
-        printed,
     }
 }

@@ -6,25 +6,21 @@ use text::head::is_feature;
 use text::part;
 use text::part::LINE_FEED;
 
-// How far the lines of a window are known to be of the head, and whether a feature's begins there.
-#[derive(Clone, Copy)]
-pub struct Searched {
-    pub at: usize,
-    pub found: bool,
-}
-
-// Goes on from a place over the lines that an LF ends, up to the first that is a feature's.
-pub fn search(window: &[u8], from: usize) -> Searched
+// Goes on from a place over the lines that an LF ends: where the first begins that is a feature's, or as
+// an error how far the window's lines are known to be of the head. By places and not by an iterator of
+// lines, since the answer is a place.
+pub fn search(window: &[u8], from: usize) -> Result<usize, usize>
     ensures { result ≡ search_of window.now from }
 {
     let mut at = from;
-    let mut end = part::end(LINE_FEED, window, at);
-    while end < window.len() {
+    loop {
+        let end = part::end(LINE_FEED, window, at);
+        if window.len() <= end {
+            return Err(at);
+        }
         if is_feature(&window[at..end]) {
-            return Searched { at, found: true };
+            return Ok(at);
         }
         at = end + 1;
-        end = part::end(LINE_FEED, window, at);
     }
-    Searched { at, found: false }
 }

@@ -1,23 +1,20 @@
 -- The kinds of an expression: page 01, "Kinds and meaning" ("The checker gives each node a set of kinds") and number 7 of "Refusal
 -- numbers".
-use Rattle.std.specs.Prelude.{true, cond, List, [], ◌∷◌, ℕ, get_or}
+use Rattle.std.specs.Prelude.{true, cond, List, [], ◌∷◌, ℕ, get_or, Option, Some, None, Result, Ok, Err}
 use Rattle.lexer.specs.Refusal.{refusal_at, Judged, refused, fine}
 use Rattle.kind.specs.Set.{set_of, single_of, union_of, within_of}
 use Rattle.kind.specs.Choice.{node_kinds}
 use Rattle.kind.specs.declared.kind.Kind.{Kind}
 use Rattle.kind.specs.declared.kind.Kind.TheVariants.{Undefined, Null, Boolean, Number, String, Vec4}
 use Rattle.kind.specs.declared.set.Kinds.{Kinds}
-use Rattle.kind.specs.declared.choice.Checked.{Checked}
-use Rattle.kind.specs.declared.choice.Checked.TheVariants as checked
 use Rattle.value.specs.Name.{function_at, pick_at}
-use Rattle.value.specs.declared.name.Found.{Found}
-use Rattle.value.specs.declared.name.Found.TheVariants.{Known, Unknown}
 use Rattle.tree.specs.Tree.{Tree, literal, variable, unary, binary, conditional, bare, call, pick, Arguments, last, next}
 use Rattle.checker.specs.Operator.{prefix_at, infix_at}
-use Rattle.checker.specs.declared.check.Verdict.{Verdict}
-use Rattle.checker.specs.declared.check.Verdict.TheVariants.{Refused, Accepted}
 use Rattle.checker.specs.declared.check.Wanted.{Wanted}
 use Rattle.checker.specs.declared.check.Wanted.TheVariants as wanted
+use Rattle.kind.specs.declared.operation.Operation.{Operation}
+use Rattle.lexer.specs.declared.refusal.Refusal.{Refusal}
+use Rattle.lexer.specs.declared.refusal.Reason.TheVariants as reason
 
 -- a literal's kind by its form: a number, a string, and the literal words
 abbrev pub literal_kinds : List Kind
@@ -29,39 +26,39 @@ literal_kind k = get_or literal_kinds k Undefined
 -- ---- a node
 
 -- "kinds, or a count of arguments", at a place
-abbrev pub wrong_at : ℕ → Verdict
-wrong_at p = Refused (refusal_at 7 p)
+abbrev pub wrong_at : ℕ → Result Kinds Refusal
+wrong_at p = Err (refusal_at reason.Kinds p)
 
 abbrev pub after : Kinds → Judged (List Kinds) → Judged (List Kinds)
 after s (refused r) = refused r
 after s (fine ss) = fine (s ∷ ss)
 
 -- the first refusal of some parts, "left to right", or their sets
-abbrev pub gathered : List Verdict → Judged (List Kinds)
+abbrev pub gathered : List (Result Kinds Refusal) → Judged (List Kinds)
 gathered [] = fine []
-gathered (Refused r ∷ vs) = refused r
-gathered (Accepted s ∷ vs) = after s (gathered vs)
+gathered (Err r ∷ vs) = refused r
+gathered (Ok s ∷ vs) = after s (gathered vs)
 
 -- a node's own answer, at its place
-abbrev pub placed : ℕ → Checked → Verdict
-placed p checked.Refused = wrong_at p
-placed p (checked.Accepted s) = Accepted s
+abbrev pub placed : ℕ → Option Kinds → Result Kinds Refusal
+placed p None = wrong_at p
+placed p (Some s) = Ok s
 
 -- "the first by its parts before itself"; a name that is not known takes nothing
-abbrev pub operated : ℕ → Found → Judged (List Kinds) → Verdict
-operated p found (refused r) = Refused r
-operated p (Known o) (fine ss) = placed p (node_kinds o ss)
-operated p Unknown (fine ss) = wrong_at p
+abbrev pub operated : ℕ → Option Operation → Judged (List Kinds) → Result Kinds Refusal
+operated p found (refused r) = Err r
+operated p (Some o) (fine ss) = placed p (node_kinds o ss)
+operated p None (fine ss) = wrong_at p
 
-abbrev pub node_of : ℕ → Found → List Verdict → Verdict
+abbrev pub node_of : ℕ → Option Operation → List (Result Kinds Refusal) → Result Kinds Refusal
 node_of p found vs = operated p found (gathered vs)
 
 -- "the test of `? :`: Boolean", "a conditional both branches' sets"
-abbrev pub conditional_of : ℕ → Verdict → Verdict → Verdict → Verdict
-conditional_of p (Refused r) a b = Refused r
-conditional_of p (Accepted t) (Refused r) b = Refused r
-conditional_of p (Accepted t) (Accepted a) (Refused r) = Refused r
-conditional_of p (Accepted t) (Accepted a) (Accepted b) = cond (within_of t (single_of Boolean)) (Accepted (union_of a b)) (wrong_at p)
+abbrev pub conditional_of : ℕ → Result Kinds Refusal → Result Kinds Refusal → Result Kinds Refusal → Result Kinds Refusal
+conditional_of p (Err r) a b = Err r
+conditional_of p (Ok t) (Err r) b = Err r
+conditional_of p (Ok t) (Ok a) (Err r) = Err r
+conditional_of p (Ok t) (Ok a) (Ok b) = cond (within_of t (single_of Boolean)) (Ok (union_of a b)) (wrong_at p)
 
 -- ---- an expression
 
@@ -69,9 +66,9 @@ conditional_of p (Accepted t) (Accepted a) (Accepted b) = cond (within_of t (sin
 -- conditional and both sides of `&&` and `||` are looked at:
 -- "branches never worked out are checked too".
 unfoldable mutual
-  pub kinds_of : (ℕ → ℕ → Kinds) → Tree → Verdict
-  kinds_of look (literal p k) = Accepted (single_of (literal_kind k))
-  kinds_of look (variable p n) = Accepted (look p n)
+  pub kinds_of : (ℕ → ℕ → Kinds) → Tree → Result Kinds Refusal
+  kinds_of look (literal p k) = Ok (single_of (literal_kind k))
+  kinds_of look (variable p n) = Ok (look p n)
   kinds_of look (unary p o e) = node_of p (prefix_at o) (kinds_of look e ∷ [])
   kinds_of look (binary p o l r) = node_of p (infix_at o) (kinds_of look l ∷ kinds_of look r ∷ [])
   kinds_of look (conditional p q c a b) = conditional_of p (kinds_of look c) (kinds_of look a) (kinds_of look b)
@@ -79,7 +76,7 @@ unfoldable mutual
   kinds_of look (call p f xs) = node_of p (function_at f) (kinds_of_all look xs)
   kinds_of look (pick p i e) = node_of p (pick_at i) (kinds_of look e ∷ [])
 
-  pub kinds_of_all : (ℕ → ℕ → Kinds) → Arguments → List Verdict
+  pub kinds_of_all : (ℕ → ℕ → Kinds) → Arguments → List (Result Kinds Refusal)
   kinds_of_all look (last e) = kinds_of look e ∷ []
   kinds_of_all look (next e q xs) = kinds_of look e ∷ kinds_of_all look xs
 
@@ -92,6 +89,6 @@ taken_by wanted.Vec4 = single_of Vec4
 taken_by wanted.Any = set_of (λ k. true)
 
 -- "the end, for a wrong result"
-abbrev pub result_of : Wanted → ℕ → Verdict → Verdict
-result_of want end (Refused r) = Refused r
-result_of want end (Accepted s) = cond (within_of s (taken_by want)) (Accepted s) (wrong_at end)
+abbrev pub result_of : Wanted → ℕ → Result Kinds Refusal → Result Kinds Refusal
+result_of want end (Err r) = Err r
+result_of want end (Ok s) = cond (within_of s (taken_by want)) (Ok s) (wrong_at end)

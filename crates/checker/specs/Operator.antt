@@ -1,5 +1,5 @@
 -- Operators by their punctuators' numbers: page 01, "Tokens and grammar" and "Kinds and meaning".
-use Rattle.std.specs.Prelude.{true, false, List, [], ◌∷◌, ℕ, eqb}
+use Rattle.std.specs.Prelude.{true, false, List, [], ◌∷◌, ℕ, eqb, Option, Some, None}
 use Rattle.lexer.specs.Bytes.{place_in, ascii}
 use Rattle.lexer.specs.Punctuator.{punctuators}
 use Rattle.kind.specs.declared.operation.Unary.TheVariants.{Plus, Minus}
@@ -9,8 +9,7 @@ use Rattle.kind.specs.declared.operation.Order.TheVariants.{Less, LessEqual, Gre
 use Rattle.kind.specs.declared.operation.Equality.TheVariants.{Equal, NotEqual}
 use Rattle.kind.specs.declared.operation.Operation.TheVariants as op
 use Rattle.value.specs.Name.{Function, function}
-use Rattle.value.specs.declared.name.Found.{Found}
-use Rattle.value.specs.declared.name.Found.TheVariants.{Known, Unknown}
+use Rattle.kind.specs.declared.operation.Operation.{Operation}
 
 abbrev pub prefixes : List Function
 prefixes = function (ascii "+") (op.Unary Plus) ∷ function (ascii "-") (op.Unary Minus) ∷ function (ascii "!") (op.Logic Not) ∷ []
@@ -33,12 +32,12 @@ infixes =
     ∷ []
 
 -- the one of some operators whose punctuator has a number
-abbrev pub numbered_in : List Function → ℕ → Found
-numbered_in [] n = Unknown
-numbered_in (function s o ∷ fs) n = elim (eqb n (place_in punctuators s)) [ true ↦ Known o | false ↦ numbered_in fs n ]
+abbrev pub numbered_in : List Function → ℕ → Option Operation
+numbered_in [] n = None
+numbered_in (function s o ∷ fs) n = elim (eqb n (place_in punctuators s)) [ true ↦ Some o | false ↦ numbered_in fs n ]
 
-unfoldable pub prefix_at : ℕ → Found
+unfoldable pub prefix_at : ℕ → Option Operation
 prefix_at n = numbered_in prefixes n
 
-unfoldable pub infix_at : ℕ → Found
+unfoldable pub infix_at : ℕ → Option Operation
 infix_at n = numbered_in infixes n

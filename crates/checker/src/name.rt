@@ -4,7 +4,7 @@ ghost use Rattle.lexer.specs.Bytes.{same};
 ghost use Rattle.lexer.specs.declared.token.Token.TheVariants.{Variable};
 ghost use Rattle.plan.specs.Layout.{undeclared};
 ghost use Rattle.checker.specs.Name.{row_at, first_row, property_row, number_of, numbered, resolved_slots};
-ghost use Rattle.checker.specs.Inner.{is_variable, Stands};
+ghost use Rattle.checker.specs.Inner.{row_below, Stands};
 
 use lexer::bytes::same_part;
 use lexer::token::{Lexeme, Token, token_at};
@@ -13,7 +13,7 @@ use tree::write;
 
 // Whose expression a name stands in: inside a define every name is a property; elsewhere, in the
 // style, a define hides a property of its name.
-#[derive(Clone, Copy)]
+#[derive(Clone, Copy, Debug, PartialEq, Eq)]
 pub enum Scope {
     Define,
     Style,
@@ -34,30 +34,24 @@ fn has_name(head: &[u8], names: &Names, name: &[u8], row: usize) -> bool
     )
 }
 
-// The first row from one up to another that has a name, or the row behind them.
-fn first_row(head: &[u8], names: &Names, name: &[u8], from: usize, to: usize) -> usize
+// The first row from one up to another that has a name.
+fn first_row(head: &[u8], names: &Names, name: &[u8], from: usize, to: usize) -> Option<usize>
     requires { (from ≤ to) × (to ≤ undeclared) }
-    ensures { result ≡ first_row (λ i. same name.now (row_at head.now names.now i)) (to - from) from }
+    ensures { result ≡ row_below to (first_row (λ i. same name.now (row_at head.now names.now i)) (to - from) from) }
 {
-    let mut row = from;
-    while row < to {
+    for row in from..to {
         if has_name(head, names, name, row) {
-            return row;
+            return Some(row);
         }
-        row += 1;
     }
-    to
+    None
 }
 
+// No Option, here and in `number`: a variable's slot holds the number of undeclared names as any other.
 fn property_row(head: &[u8], names: &Names, name: &[u8]) -> usize
     ensures { result ≡ property_row (λ i. same name.now (row_at head.now names.now i)) }
 {
-    let row = first_row(head, names, name, 0, MOST_PROPERTIES);
-    if row < MOST_PROPERTIES {
-        row
-    } else {
-        UNDECLARED
-    }
+    first_row(head, names, name, 0, MOST_PROPERTIES).unwrap_or(UNDECLARED)
 }
 
 // The number of a name: a property's, a define's, or that of undeclared names.
@@ -66,29 +60,9 @@ pub fn number(scope: Scope, head: &[u8], names: &Names, name: &[u8]) -> usize
 {
     match scope {
         Scope::Define => property_row(head, names, name),
-        Scope::Style => {
-            let row = first_row(head, names, name, FIRST_DEFINE, UNDECLARED);
-            if row < UNDECLARED {
-                row
-            } else {
-                property_row(head, names, name)
-            }
-        }
-    }
-}
-
-fn is_variable(token: Token) -> bool
-    ensures { result ≡ is_variable token }
-{
-    match token {
-        Token::Number {
-            digits: _,
-            places: _,
-        } => false,
-        Token::String => false,
-        Token::Variable => true,
-        Token::Word(_) => false,
-        Token::Punctuator(_) => false,
+        Scope::Style => first_row(head, names, name, FIRST_DEFINE, UNDECLARED).unwrap_or_else(
+            || property_row(head, names, name),
+        ),
     }
 }
 
@@ -116,20 +90,10 @@ pub fn resolve(scope: Scope, head: &[u8], names: &Names, text: &[u8], slots: &mu
         text.now slots.old }
 {
     let mut from = 0;
-    loop {
-        match token_at(text, from) {
-            Lexeme::Found { token, at, end } => {
-                if is_variable(token) {
-                    number_variable(scope, head, names, text, at, end, slots);
-                }
-                from = end;
-            }
-            Lexeme::Bad { at: _, end: _ } => {
-                return;
-            }
-            Lexeme::End => {
-                return;
-            }
+    while let Lexeme::Found { token, at, end } = token_at(text, from) {
+        if let Token::Variable = token {
+            number_variable(scope, head, names, text, at, end, slots);
         }
+        from = end;
     }
 }

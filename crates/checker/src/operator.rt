@@ -1,40 +1,47 @@
-// Operators by their punctuators' numbers.
+// Operators by their punctuators' numbers, as these lie in slots.
 ghost use Rattle.std.specs.Prelude.{◌≡◌};
 ghost use Rattle.checker.specs.Operator.{prefix_at, infix_at};
 
 use kind::operation::{Binary, Equality, Logic, Operation, Order, Unary};
-use value::name::Found;
+use lexer::punctuator::{
+    AND, DIVIDE, EQUAL, GREATER, GREATER_OR_EQUAL, LESS, LESS_OR_EQUAL, MINUS, NOT, OR, PLUS,
+    REMAINDER, TIMES, UNEQUAL,
+};
 
 // A unary operator.
-pub fn prefix_at(number: usize) -> Found
+#[tactic(auto, unfolding(crate::specs::Operator::prefix_at))]
+pub fn prefix_at(number: usize) -> Option<Operation>
     ensures { result ≡ prefix_at number }
 {
-    match number {
-        10 => Found::Known(Operation::Unary(Unary::Plus)),
-        11 => Found::Known(Operation::Unary(Unary::Minus)),
-        15 => Found::Known(Operation::Logic(Logic::Not)),
-        _ => Found::Unknown,
-    }
+    let operation = match u8::try_from(number).ok()? {
+        PLUS => Operation::Unary(Unary::Plus),
+        MINUS => Operation::Unary(Unary::Minus),
+        NOT => Operation::Logic(Logic::Not),
+        _ => return None,
+    };
+    Some(operation)
 }
 
 // A binary operator.
-pub fn infix_at(number: usize) -> Found
+#[tactic(auto, unfolding(crate::specs::Operator::infix_at))]
+pub fn infix_at(number: usize) -> Option<Operation>
     ensures { result ≡ infix_at number }
 {
-    match number {
-        2 => Found::Known(Operation::Logic(Logic::Or)),
-        3 => Found::Known(Operation::Logic(Logic::And)),
-        4 => Found::Known(Operation::Equality(Equality::Equal)),
-        5 => Found::Known(Operation::Equality(Equality::NotEqual)),
-        6 => Found::Known(Operation::Order(Order::Less)),
-        7 => Found::Known(Operation::Order(Order::LessEqual)),
-        8 => Found::Known(Operation::Order(Order::Greater)),
-        9 => Found::Known(Operation::Order(Order::GreaterEqual)),
-        10 => Found::Known(Operation::Binary(Binary::Add)),
-        11 => Found::Known(Operation::Binary(Binary::Subtract)),
-        12 => Found::Known(Operation::Binary(Binary::Multiply)),
-        13 => Found::Known(Operation::Binary(Binary::Divide)),
-        14 => Found::Known(Operation::Binary(Binary::Remainder)),
-        _ => Found::Unknown,
-    }
+    let operation = match u8::try_from(number).ok()? {
+        OR => Operation::Logic(Logic::Or),
+        AND => Operation::Logic(Logic::And),
+        EQUAL => Operation::Equality(Equality::Equal),
+        UNEQUAL => Operation::Equality(Equality::NotEqual),
+        LESS => Operation::Order(Order::Less),
+        LESS_OR_EQUAL => Operation::Order(Order::LessEqual),
+        GREATER => Operation::Order(Order::Greater),
+        GREATER_OR_EQUAL => Operation::Order(Order::GreaterEqual),
+        PLUS => Operation::Binary(Binary::Add),
+        MINUS => Operation::Binary(Binary::Subtract),
+        TIMES => Operation::Binary(Binary::Multiply),
+        DIVIDE => Operation::Binary(Binary::Divide),
+        REMAINDER => Operation::Binary(Binary::Remainder),
+        _ => return None,
+    };
+    Some(operation)
 }

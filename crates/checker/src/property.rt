@@ -1,27 +1,21 @@
 // The kinds that a name stands for, and how the sets of all names lie in the plan.
-ghost use Rattle.std.specs.Prelude.{◌≡◌, ◌≤◌};
-ghost use Rattle.checker.specs.Property.{declared, only_if, property_kinds, unpacked_of, bit, packed_of, set_at};
+ghost use Rattle.std.specs.Prelude.{◌≡◌};
+ghost use Rattle.checker.specs.Property.{declared, property_kinds, unpacked_of, packed_of, set_at};
 
 use kind::kind::Kind;
 use kind::set::Kinds;
 use plan::layout::{Plan, SETS, UNDECLARED};
 
-fn only_if(may: bool, kind: Kind) -> Kinds
-    ensures { result ≡ only_if may kind }
-{
-    if may {
-        Kinds::single(kind)
-    } else {
-        Kinds::NONE
-    }
-}
-
 // The kinds of a property with a type, which may be absent and may be null.
 pub fn kinds(kind: Kind, absent: bool, null: bool) -> Kinds
     ensures { result ≡ property_kinds (declared kind absent null) }
 {
-    let lacking = only_if(absent, Kind::Undefined).union(only_if(null, Kind::Null));
-    Kinds::single(kind).union(lacking)
+    let own = Kinds::single(kind);
+    Kinds {
+        undefined: own.undefined | absent,
+        null: own.null | null,
+        ..own
+    }
 }
 
 fn unpacked(packed: u16) -> Kinds
@@ -39,20 +33,18 @@ fn unpacked(packed: u16) -> Kinds
     }
 }
 
-fn bit(set: bool, weight: u16) -> u16
-    ensures is { result ≡ bit set weight }
-    ensures most { result ≤ weight }
-{
-    if set { weight } else { 0 }
-}
-
 // The number of a set, a bit for each kind.
 pub fn packed(set: Kinds) -> u16
     ensures { result ≡ packed_of set }
 {
-    let vectors = bit(set.vec2, 32) + (bit(set.vec3, 64) + bit(set.vec4, 128));
-    let plain = bit(set.boolean, 4) + (bit(set.number, 8) + (bit(set.string, 16) + vectors));
-    bit(set.undefined, 1) + (bit(set.null, 2) + plain)
+    let low = u16::from(set.undefined)
+        + 2 * u16::from(set.null)
+        + 4 * u16::from(set.boolean)
+        + 8 * u16::from(set.number);
+    low + 16 * u16::from(set.string)
+        + 32 * u16::from(set.vec2)
+        + 64 * u16::from(set.vec3)
+        + 128 * u16::from(set.vec4)
 }
 
 // The set of a name's number. A number that has none in the plan is an undeclared name's.

@@ -4,7 +4,7 @@ ghost use Rattle.colour.specs.Colour.{rgb_of, rgba_of, of_bytes, with_alpha, cla
 
 use number::colour::{byte, component};
 
-#[derive(Clone, Copy)]
+#[derive(Clone, Copy, Debug, PartialEq)]
 pub struct Colour {
     pub red: f64,
     pub green: f64,
@@ -12,15 +12,8 @@ pub struct Colour {
     pub alpha: f64,
 }
 
-// The colour of a feature, or none.
-#[derive(Clone, Copy)]
-pub enum Colouring {
-    None,
-    Of(Colour),
-}
-
 // A colour as it is shown.
-#[derive(Clone, Copy)]
+#[derive(Clone, Copy, Debug, PartialEq, Eq)]
 pub struct Rgba8 {
     pub red: u8,
     pub green: u8,
@@ -28,13 +21,17 @@ pub struct Rgba8 {
     pub alpha: u8,
 }
 
+// What the bytes 128 and 192 are of 255.
+const HALF: f64 = 128.0 / 255.0;
+
+const LIGHT: f64 = 192.0 / 255.0;
+
+// The colours of CSS's sixteen basic words.
 impl Colour {
-    // The colours of CSS's sixteen basic words.
     pub const AQUA: Colour = Colour {
-        red: 0.0,
         green: 1.0,
         blue: 1.0,
-        alpha: 1.0,
+        ..Colour::BLACK
     };
 
     pub const BLACK: Colour = Colour {
@@ -45,103 +42,88 @@ impl Colour {
     };
 
     pub const BLUE: Colour = Colour {
-        red: 0.0,
-        green: 0.0,
         blue: 1.0,
-        alpha: 1.0,
+        ..Colour::BLACK
     };
 
     pub const FUCHSIA: Colour = Colour {
         red: 1.0,
-        green: 0.0,
         blue: 1.0,
-        alpha: 1.0,
+        ..Colour::BLACK
     };
 
     pub const GRAY: Colour = Colour {
-        red: 0.5019607843137255,
-        green: 0.5019607843137255,
-        blue: 0.5019607843137255,
-        alpha: 1.0,
+        red: HALF,
+        green: HALF,
+        blue: HALF,
+        ..Colour::BLACK
     };
 
     pub const GREEN: Colour = Colour {
-        red: 0.0,
-        green: 0.5019607843137255,
-        blue: 0.0,
-        alpha: 1.0,
+        green: HALF,
+        ..Colour::BLACK
     };
 
     pub const LIME: Colour = Colour {
-        red: 0.0,
         green: 1.0,
-        blue: 0.0,
-        alpha: 1.0,
+        ..Colour::BLACK
     };
 
     pub const MAROON: Colour = Colour {
-        red: 0.5019607843137255,
-        green: 0.0,
-        blue: 0.0,
-        alpha: 1.0,
+        red: HALF,
+        ..Colour::BLACK
     };
 
     pub const NAVY: Colour = Colour {
-        red: 0.0,
-        green: 0.0,
-        blue: 0.5019607843137255,
-        alpha: 1.0,
+        blue: HALF,
+        ..Colour::BLACK
     };
 
     pub const OLIVE: Colour = Colour {
-        red: 0.5019607843137255,
-        green: 0.5019607843137255,
-        blue: 0.0,
-        alpha: 1.0,
+        red: HALF,
+        green: HALF,
+        ..Colour::BLACK
     };
 
     pub const PURPLE: Colour = Colour {
-        red: 0.5019607843137255,
-        green: 0.0,
-        blue: 0.5019607843137255,
-        alpha: 1.0,
+        red: HALF,
+        blue: HALF,
+        ..Colour::BLACK
     };
 
     pub const RED: Colour = Colour {
         red: 1.0,
-        green: 0.0,
-        blue: 0.0,
-        alpha: 1.0,
+        ..Colour::BLACK
     };
 
     pub const SILVER: Colour = Colour {
-        red: 0.7529411764705882,
-        green: 0.7529411764705882,
-        blue: 0.7529411764705882,
-        alpha: 1.0,
+        red: LIGHT,
+        green: LIGHT,
+        blue: LIGHT,
+        ..Colour::BLACK
     };
 
     pub const TEAL: Colour = Colour {
-        red: 0.0,
-        green: 0.5019607843137255,
-        blue: 0.5019607843137255,
-        alpha: 1.0,
+        green: HALF,
+        blue: HALF,
+        ..Colour::BLACK
     };
 
     pub const WHITE: Colour = Colour {
         red: 1.0,
         green: 1.0,
         blue: 1.0,
-        alpha: 1.0,
+        ..Colour::BLACK
     };
 
     pub const YELLOW: Colour = Colour {
         red: 1.0,
         green: 1.0,
-        blue: 0.0,
-        alpha: 1.0,
+        ..Colour::BLACK
     };
+}
 
+impl Colour {
     // Red, green and blue from 0 to 255.
     pub fn rgb(red: f64, green: f64, blue: f64) -> Colour
         ensures { result ≡ rgb_of red green blue }
@@ -157,25 +139,20 @@ impl Colour {
             red: red / 255.0,
             green: green / 255.0,
             blue: blue / 255.0,
-            alpha: alpha,
+            alpha,
         }
     }
 
     pub fn of_bytes(red: u8, green: u8, blue: u8) -> Colour
         ensures { result ≡ of_bytes red green blue }
     {
-        Colour::rgb(red as f64, green as f64, blue as f64)
+        Colour::rgb(f64::from(red), f64::from(green), f64::from(blue))
     }
 
     pub fn with_alpha(self, alpha: f64) -> Colour
         ensures { result ≡ with_alpha self alpha }
     {
-        Colour {
-            red: self.red,
-            green: self.green,
-            blue: self.blue,
-            alpha: alpha,
-        }
+        Colour { alpha, ..self }
     }
 
     // Each number held to 0 to 1.

@@ -1,116 +1,93 @@
 // The colour that a text names.
-ghost use Rattle.std.specs.Prelude.{◌≡◌, ◌&&◌, ◌+◌, ◌*◌, drop};
-ghost use Rattle.lexer.specs.Bytes.{is_hex_digit};
-ghost use Rattle.colour.specs.Inner.{last_bits};
-ghost use Rattle.colour.specs.Text.{short_hex, long_hex, colour_at, hex_text, colour_of};
+ghost use Rattle.std.specs.Prelude.{◌≡◌, ◌<◌, IfSome};
+ghost use Rattle.colour.specs.Inner.{digit_of, byte_of, found};
+ghost use Rattle.colour.specs.Text.{short_hex, long_hex, hex_text, colour_of};
 
 use crate::colour::Colour;
-use lexer::bytes::{has_byte, is_digit, is_hex_digit};
-use words::table::number_in;
 
-#[derive(Clone, Copy)]
-pub enum Named {
-    Known(Colour),
-    Unknown,
-}
+// CSS's sixteen basic words, each with its colour.
+const BASIC: [(&[u8], Colour); 16] = [
+    (b"aqua", Colour::AQUA),
+    (b"black", Colour::BLACK),
+    (b"blue", Colour::BLUE),
+    (b"fuchsia", Colour::FUCHSIA),
+    (b"gray", Colour::GRAY),
+    (b"green", Colour::GREEN),
+    (b"lime", Colour::LIME),
+    (b"maroon", Colour::MAROON),
+    (b"navy", Colour::NAVY),
+    (b"olive", Colour::OLIVE),
+    (b"purple", Colour::PURPLE),
+    (b"red", Colour::RED),
+    (b"silver", Colour::SILVER),
+    (b"teal", Colour::TEAL),
+    (b"white", Colour::WHITE),
+    (b"yellow", Colour::YELLOW),
+];
 
-// The value of a hex digit. The last four bits of a letter are its value less 9.
-fn hex_value(b: u8) -> u8
-    ensures { result ≡ last_bits b }
+fn hex_digit(b: u8) -> Option<u8>
+    ensures value { result ≡ digit_of b }
+    ensures small { IfSome result (λ v. v < 16) }
 {
-    if is_digit(b) {
-        b % 16
-    } else {
-        (b % 128 + 9) % 16
+    match b {
+        b'0'..=b'9' => Some(b - b'0'),
+        b'A'..=b'F' => Some(b - b'A' + 10),
+        b'a'..=b'f' => Some(b - b'a' + 10),
+        _ => None,
     }
 }
 
-// Three digits, each of which stands for two.
-fn short_hex(r: u8, g: u8, b: u8) -> Named
-    ensures { result ≡ short_hex r g b }
+fn hex_byte(high: u8, low: u8) -> Option<u8>
+    ensures { result ≡ byte_of high low }
 {
-    if is_hex_digit(r) & (is_hex_digit(g) & is_hex_digit(b)) {
-        Named::Known(Colour::of_bytes(17 * hex_value(r), 17 * hex_value(g), 17 * hex_value(b)))
-    } else {
-        Named::Unknown
-    }
-}
-
-fn hex_byte(high: u8, low: u8) -> u8
-    ensures { result ≡ 16 * last_bits high + last_bits low }
-{
-    16 * hex_value(high) + hex_value(low)
-}
-
-fn are_hex_digits(high: u8, low: u8) -> bool
-    ensures { result ≡ is_hex_digit high && is_hex_digit low }
-{
-    is_hex_digit(high) & is_hex_digit(low)
+    Some(16 * hex_digit(high)? + hex_digit(low)?)
 }
 
 // Six digits, two for each of red, green and blue.
-fn long_hex(r: u8, s: u8, g: u8, h: u8, b: u8, c: u8) -> Named
+fn long_hex(r: u8, s: u8, g: u8, h: u8, b: u8, c: u8) -> Option<Colour>
     ensures { result ≡ long_hex r s g h b c }
 {
-    if are_hex_digits(r, s) & (are_hex_digits(g, h) & are_hex_digits(b, c)) {
-        Named::Known(Colour::of_bytes(hex_byte(r, s), hex_byte(g, h), hex_byte(b, c)))
-    } else {
-        Named::Unknown
-    }
+    Some(Colour::of_bytes(hex_byte(r, s)?, hex_byte(g, h)?, hex_byte(b, c)?))
+}
+
+// Three digits, each of which stands for two.
+fn short_hex(r: u8, g: u8, b: u8) -> Option<Colour>
+    ensures { result ≡ short_hex r g b }
+{
+    long_hex(r, r, g, g, b, b)
 }
 
 // What stands after a `#`.
-fn hex_text(text: &[u8]) -> Named
-    ensures { result ≡ hex_text (drop 1 text.now) }
+fn hex_text(digits: &[u8]) -> Option<Colour>
+    ensures { result ≡ hex_text digits.now }
 {
-    let n = text.len();
-    if n == 4 {
-        short_hex(text[1], text[2], text[3])
-    } else if n == 7 {
-        long_hex(text[1], text[2], text[3], text[4], text[5], text[6])
-    } else {
-        Named::Unknown
+    match digits {
+        [r, g, b] => short_hex(*r, *g, *b),
+        [r, s, g, h, b, c] => long_hex(*r, *s, *g, *h, *b, *c),
+        _ => None,
     }
 }
 
-// The colour of a basic word by its number.
-fn basic(number: usize) -> Named
-    ensures { result ≡ colour_at number }
+// The colour of a word of a table, in any letter case.
+fn found(table: &[(&[u8], Colour)], text: &[u8]) -> Option<Colour>
+    ensures { result ≡ found table.now text.now }
 {
-    match number {
-        0 => Named::Known(Colour::AQUA),
-        1 => Named::Known(Colour::BLACK),
-        2 => Named::Known(Colour::BLUE),
-        3 => Named::Known(Colour::FUCHSIA),
-        4 => Named::Known(Colour::GRAY),
-        5 => Named::Known(Colour::GREEN),
-        6 => Named::Known(Colour::LIME),
-        7 => Named::Known(Colour::MAROON),
-        8 => Named::Known(Colour::NAVY),
-        9 => Named::Known(Colour::OLIVE),
-        10 => Named::Known(Colour::PURPLE),
-        11 => Named::Known(Colour::RED),
-        12 => Named::Known(Colour::SILVER),
-        13 => Named::Known(Colour::TEAL),
-        14 => Named::Known(Colour::WHITE),
-        15 => Named::Known(Colour::YELLOW),
-        _ => Named::Unknown,
+    for (word, colour) in table {
+        if text.eq_ignore_ascii_case(word) {
+            return Some(*colour);
+        }
     }
+    None
 }
 
 impl Colour {
-    // The colour of a text: `#` and 3 or 6 hex digits, or a basic word in any letter case.
-    pub fn from_text(text: &[u8]) -> Named
+    // The colour of a text: `#` and hex digits, or a basic word.
+    pub fn from_text(text: &[u8]) -> Option<Colour>
         ensures { result ≡ colour_of text.now }
     {
-        if has_byte(text, 0, b'#') {
-            hex_text(text)
-        } else {
-            basic(number_in(
-                b"aqua black blue fuchsia gray green lime maroon navy olive purple red silver teal white yellow",
-                text,
-                true,
-            ))
+        match text.strip_prefix(b"#") {
+            Some(digits) => hex_text(digits),
+            None => found(&BASIC, text),
         }
     }
 }

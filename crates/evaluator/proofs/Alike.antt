@@ -1,4 +1,6 @@
 -- An expression comes to the same in two contexts that differ only in where strings lie, but for a string's place: all that is seen of a string is its bytes.
+use Rattle.std.specs.Prelude.{Option, Some, None}
+use Rattle.std.specs.List.{flat_map}
 use mathlib.Core.Path.{◌≡◌, refl, ◌∙◌, ap, subst}
 use mathlib.Core.Bool.{Bool, true, false, not, cond, ◌&&◌, ◌||◌, beq}
 use mathlib.Core.List.{List, [], ◌∷◌, map, ◌++◌}
@@ -15,8 +17,6 @@ use Rattle.kind.specs.Operation.{index_of}
 use Rattle.kind.specs.Rule.{rule_of}
 use Rattle.kind.specs.declared.kind.Kind.{Kind}
 use Rattle.kind.specs.declared.kind.Kind.TheVariants as kind
-use Rattle.kind.specs.declared.kind.Ruled.{Ruled}
-use Rattle.kind.specs.declared.kind.Ruled.TheVariants as rule
 use Rattle.kind.specs.declared.operation.Logic.{Logic}
 use Rattle.kind.specs.declared.operation.Logic.TheVariants.{Not, And, Or}
 use Rattle.kind.specs.declared.operation.Equality.{Equality}
@@ -42,10 +42,6 @@ use Rattle.value.specs.Scalar as scalar
 use Rattle.value.specs.Equality.{parts_equal, equal_of}
 use Rattle.value.specs.Meaning.{by_component, logic_of, equality_of, sum_of, dot_of, cross_at, product_of, joined_at, or_white, alpha_or, color_of, vec4_of, constructed, made_of, outcome, operand, meaning}
 use Rattle.value.specs.Name.{function_at, pick_at}
-use Rattle.value.specs.declared.apply.Outcome.{Outcome}
-use Rattle.value.specs.declared.apply.Outcome.TheVariants.{Fault, Worked}
-use Rattle.value.specs.declared.name.Found.{Found}
-use Rattle.value.specs.declared.name.Found.TheVariants.{Known, Unknown}
 use Rattle.value.specs.declared.value.Span.{Span}
 use Rattle.value.specs.declared.value.Value.{Value}
 use Rattle.value.specs.declared.value.Value.TheVariants.{Undefined, Null, Boolean, Number, String, Vec2, Vec3, Vec4}
@@ -94,8 +90,8 @@ component-plain kind.Vec2 g = tt
 component-plain kind.Vec3 g = tt
 component-plain kind.Vec4 g = tt
 
-module _ (text : Span → List ℕ) (a b c d : Value) where
-  constructed-plain : (f : Constructor) → T (not (is_string (constructed text f a b c d)))
+module _ (text : Span → List ℕ) (vs : List Value) where
+  constructed-plain : (f : Constructor) → T (not (is_string (constructed text f vs)))
   constructed-plain make.Vec2 = tt
   constructed-plain make.Vec3 = tt
   constructed-plain make.Vec4 = tt
@@ -103,11 +99,11 @@ module _ (text : Span → List ℕ) (a b c d : Value) where
   constructed-plain make.Rgba = tt
   constructed-plain make.Color = tt
 
-  product-plain : (f : Product) → T (not (is_string (product_of f a b)))
-  product-plain Dot = tt
-  product-plain Cross = tt
+  product-plain : (f : Product) (a b : Value) → T (not (is_string (product_of f a b)))
+  product-plain Dot a b = tt
+  product-plain Cross a b = tt
 
-  made_plain : (o : Operation) (k : Kind) → T (not (is_string (made_of text o k a b c d)))
+  made_plain : (o : Operation) (k : Kind) → T (not (is_string (made_of text o k vs)))
   made_plain (op.Unary f) k = component-plain k _
   made_plain (op.Binary f) k = component-plain k _
   made_plain (op.Ternary f) k = component-plain k _
@@ -116,7 +112,7 @@ module _ (text : Span → List ℕ) (a b c d : Value) where
   made_plain (op.Equality f) k = tt
   made_plain (op.Test f) k = tt
   made_plain (op.Constructor f) k = constructed-plain f
-  made_plain (op.Product f) k = product-plain f
+  made_plain (op.Product f) k = product-plain f (operand 0 vs) (operand 1 vs)
   made_plain (op.Pick m) k = tt
 
 module _ {R : Span → Span → Type 0} (t u : Span → List ℕ) (bytes : (s z : Span) → R s z → t s ≡ u z) where
@@ -146,7 +142,7 @@ module _ {R : Span → Span → Type 0} (t u : Span → List ℕ) (bytes : (s z 
 
   -- ---- an operation
 
-  module _ {a b c d a' b' c' d' : Value} (p : Alike R a a') (q : Alike R b b') (r : Alike R c c') (s : Alike R d d') where
+  module _ {a b a' b' : Value} (p : Alike R a a') (q : Alike R b b') where
     logic-is : (f : Logic) → logic_of f a b ≡ logic_of f a' b'
     logic-is Not = ap not (alike-truth p)
     logic-is And = λ i. alike-truth p i && alike-truth q i
@@ -164,107 +160,113 @@ module _ {R : Span → Span → Type 0} (t u : Span → List ℕ) (bytes : (s z 
         cross : (j k : ℕ) → cross_at a b j k ≡ cross_at a' b' j k
         cross j k = λ i. sub binary64 (mul binary64 (alike_at p j i) (alike_at q k i)) (mul binary64 (alike_at p k i) (alike_at q j i))
 
-    joined_is : (n : ℕ) → joined_at a b c d n ≡ joined_at a' b' c' d' n
+  module _ (vs ws : List Value) (joined : flat_map components_of vs ≡ flat_map components_of ws) (h : (i : ℕ) → Alike R (operand i vs) (operand i ws)) where
+    joined_is : (n : ℕ) → joined_at vs n ≡ joined_at ws n
     unfolding joined_at
-    joined_is n = λ i. get_or (alike-components p i ++ alike-components q i ++ alike-components r i ++ alike-components s i) n (alike_at p 0 i)
+    joined_is n = λ i. get_or (joined i) n (alike_at (h 0) 0 i)
 
-    constructed-is : (f : Constructor) → constructed t f a b c d ≡ constructed u f a' b' c' d'
+    constructed-is : (f : Constructor) → constructed t f vs ≡ constructed u f ws
     constructed-is make.Vec2 = λ i. Vec2 (joined_is 0 i) (joined_is 1 i)
     constructed-is make.Vec3 = λ i. Vec3 (joined_is 0 i) (joined_is 1 i) (joined_is 2 i)
     constructed-is make.Vec4 = λ i. Vec4 (joined_is 0 i) (joined_is 1 i) (joined_is 2 i) (joined_is 3 i)
-    constructed-is make.Rgb = λ i. vec4_of (rgb_of (alike_at p 0 i) (alike_at q 0 i) (alike_at r 0 i))
-    constructed-is make.Rgba = λ i. vec4_of (rgba_of (alike_at p 0 i) (alike_at q 0 i) (alike_at r 0 i) (alike_at s 0 i))
-    constructed-is make.Color = ap vec4_of (color-alike p q)
+    constructed-is make.Rgb = λ i. vec4_of (rgb_of (alike_at (h 0) 0 i) (alike_at (h 1) 0 i) (alike_at (h 2) 0 i))
+    constructed-is make.Rgba =
+        λ i. vec4_of (rgba_of (alike_at (h 0) 0 i) (alike_at (h 1) 0 i) (alike_at (h 2) 0 i) (alike_at (h 3) 0 i))
+    constructed-is make.Color = ap vec4_of (color-alike (h 0) (h 1))
 
-    made-is : (o : Operation) (k : Kind) → made_of t o k a b c d ≡ made_of u o k a' b' c' d'
-    made-is (op.Unary f) k = λ i. by_component k (λ j. scalar.unary_of f (alike_at p j i))
-    made-is (op.Binary f) k = λ i. by_component k (λ j. scalar.binary_of f (alike_at p j i) (alike_at q j i))
-    made-is (op.Ternary f) k = λ i. by_component k (λ j. scalar.ternary_of f (alike_at p j i) (alike_at q j i) (alike_at r j i))
-    made-is (op.Logic f) k = ap Boolean (logic-is f)
-    made-is (op.Order f) k = λ i. Boolean (scalar.order_of f (alike_at p 0 i) (alike_at q 0 i))
-    made-is (op.Equality f) k = ap Boolean (equality-is f)
-    made-is (op.Test f) k = λ i. Boolean (scalar.test_of f (alike_at p 0 i))
+    made-is : (o : Operation) (k : Kind) → made_of t o k vs ≡ made_of u o k ws
+    made-is (op.Unary f) k = λ i. by_component k (λ j. scalar.unary_of f (alike_at (h 0) j i))
+    made-is (op.Binary f) k = λ i. by_component k (λ j. scalar.binary_of f (alike_at (h 0) j i) (alike_at (h 1) j i))
+    made-is (op.Ternary f) k =
+        λ i. by_component k (λ j. scalar.ternary_of f (alike_at (h 0) j i) (alike_at (h 1) j i) (alike_at (h 2) j i))
+    made-is (op.Logic f) k = ap Boolean (logic-is (h 0) (h 1) f)
+    made-is (op.Order f) k = λ i. Boolean (scalar.order_of f (alike_at (h 0) 0 i) (alike_at (h 1) 0 i))
+    made-is (op.Equality f) k = ap Boolean (equality-is (h 0) (h 1) f)
+    made-is (op.Test f) k = λ i. Boolean (scalar.test_of f (alike_at (h 0) 0 i))
     made-is (op.Constructor f) k = constructed-is f
-    made-is (op.Product f) k = product_is f
-    made-is (op.Pick m) k = λ i. Number (alike_at p (index_of m) i)
+    made-is (op.Product f) k = product_is (h 0) (h 1) f
+    made-is (op.Pick m) k = λ i. Number (alike_at (h 0) (index_of m) i)
 
-    made_alike : (o : Operation) (k : Kind) → Alike R (made_of t o k a b c d) (made_of u o k a' b' c' d')
-    made_alike o k = subst (Alike R (made_of t o k a b c d)) (made-is o k) (same (made_of t o k a b c d) (made_plain t a b c d o k))
+    made_alike : (o : Operation) (k : Kind) → Alike R (made_of t o k vs) (made_of u o k ws)
+    made_alike o k = subst (Alike R (made_of t o k vs)) (made-is o k) (same (made_of t o k vs) (made_plain t vs o k))
 
-  meaning-alike : (o : Operation) (vs ws : List Value) → map kind_of vs ≡ map kind_of ws → ((i : ℕ) → Alike R (operand i vs) (operand i ws)) →
-      AlikeOutcomes R (meaning t o vs) (meaning u o ws)
+  meaning-alike : (o : Operation) (vs ws : List Value) → map kind_of vs ≡ map kind_of ws → flat_map components_of vs ≡ flat_map components_of ws →
+      ((i : ℕ) → Alike R (operand i vs) (operand i ws)) → AlikeOutcomes R (meaning t o vs) (meaning u o ws)
   unfolding meaning
-  meaning-alike o vs ws e h = rw e (go (rule_of o (map kind_of ws)))
+  meaning-alike o vs ws e j h = rw e (go (rule_of o (map kind_of ws)))
     where
-      go : (r : Ruled) → AlikeOutcomes R (outcome r (λ k. made_of t o k (operand 0 vs) (operand 1 vs) (operand 2 vs) (operand 3 vs)))
-          (outcome r (λ k. made_of u o k (operand 0 ws) (operand 1 ws) (operand 2 ws) (operand 3 ws)))
-      go rule.Fault = tt
-      go (rule.Gives k) = made_alike (h 0) (h 1) (h 2) (h 3) o k
+      go : (r : Option Kind) → AlikeOutcomes R (outcome r (λ k. made_of t o k vs)) (outcome r (λ k. made_of u o k ws))
+      go None = tt
+      go (Some k) = made_alike vs ws j h o k
 
 -- ---- parts that go together
 
 -- one by one
-data AllAlike (R : Span → Span → Type 0) : List Outcome → List Outcome → Type 0 where
+data AllAlike (R : Span → Span → Type 0) : List (Option Value) → List (Option Value) → Type 0 where
   none : AllAlike R [] []
-  more : (o p : Outcome) {os ps : List Outcome} → AlikeOutcomes R o p → AllAlike R os ps → AllAlike R (o ∷ os) (p ∷ ps)
+  more : (o p : Option Value) {os ps : List (Option Value)} → AlikeOutcomes R o p → AllAlike R os ps → AllAlike R (o ∷ os) (p ∷ ps)
 
 module _ (R : Span → Span → Type 0) where
-  alike-fault : (o p : Outcome) → AlikeOutcomes R o p → is_fault o ≡ is_fault p
-  alike-fault Fault Fault h = refl
-  alike-fault Fault (Worked w) h = absurd h
-  alike-fault (Worked v) Fault h = absurd h
-  alike-fault (Worked v) (Worked w) h = refl
+  alike-fault : (o p : Option Value) → AlikeOutcomes R o p → is_fault o ≡ is_fault p
+  alike-fault None None h = refl
+  alike-fault None (Some w) h = absurd h
+  alike-fault (Some v) None h = absurd h
+  alike-fault (Some v) (Some w) h = refl
 
-  alike-value : (o p : Outcome) → AlikeOutcomes R o p → Alike R (value_in o) (value_in p)
-  alike-value Fault Fault h = same Undefined tt
-  alike-value Fault (Worked w) h = absurd h
-  alike-value (Worked v) Fault h = absurd h
-  alike-value (Worked v) (Worked w) h = h
+  alike-value : (o p : Option Value) → AlikeOutcomes R o p → Alike R (value_in o) (value_in p)
+  alike-value None None h = same Undefined tt
+  alike-value None (Some w) h = absurd h
+  alike-value (Some v) None h = absurd h
+  alike-value (Some v) (Some w) h = h
 
   -- both have a fault, or neither
-  alike-faults : {os ps : List Outcome} → AllAlike R os ps → some_fault os ≡ some_fault ps
+  alike-faults : {os ps : List (Option Value)} → AllAlike R os ps → some_fault os ≡ some_fault ps
   alike-faults none = refl
   alike-faults (more o p h hs) = λ i. alike-fault o p h i || alike-faults hs i
 
-  alike-kinds : {os ps : List Outcome} → AllAlike R os ps → map kind_of (map value_in os) ≡ map kind_of (map value_in ps)
+  alike-kinds : {os ps : List (Option Value)} → AllAlike R os ps → map kind_of (map value_in os) ≡ map kind_of (map value_in ps)
   alike-kinds none = refl
   alike-kinds (more o p h hs) = λ i. alike-kind (alike-value o p h) i ∷ alike-kinds hs i
 
-  alike-operand : {os ps : List Outcome} → AllAlike R os ps → (i : ℕ) → Alike R (operand i (map value_in os)) (operand i (map value_in ps))
+  alike-joined : {os ps : List (Option Value)} → AllAlike R os ps → flat_map components_of (map value_in os) ≡ flat_map components_of (map value_in ps)
+  alike-joined none = refl
+  alike-joined (more o p h hs) = λ i. alike-components (alike-value o p h) i ++ alike-joined hs i
+
+  alike-operand : {os ps : List (Option Value)} → AllAlike R os ps → (i : ℕ) → Alike R (operand i (map value_in os)) (operand i (map value_in ps))
   alike-operand none i = same Undefined tt
   alike-operand (more o p h hs) zero = alike-value o p h
   alike-operand (more o p h hs) (suc i) = alike-operand hs i
 
   -- a test takes both the same way
-  branch-alike : (o p a b x y : Outcome) → AlikeOutcomes R o p → AlikeOutcomes R a x → AlikeOutcomes R b y → AlikeOutcomes R (branch_of o a b) (branch_of p x y)
-  branch-alike Fault Fault a b x y h ha hb = tt
-  branch-alike Fault (Worked w) a b x y h ha hb = absurd h
-  branch-alike (Worked v) Fault a b x y h ha hb = absurd h
-  branch-alike (Worked v) (Worked w) a b x y h ha hb = rw (alike-kind h, alike-truth h) (go (eq_kind kind.Boolean (kind_of w)) (truth w))
+  branch-alike : (o p a b x y : Option Value) → AlikeOutcomes R o p → AlikeOutcomes R a x → AlikeOutcomes R b y → AlikeOutcomes R (branch_of o a b) (branch_of p x y)
+  branch-alike None None a b x y h ha hb = tt
+  branch-alike None (Some w) a b x y h ha hb = absurd h
+  branch-alike (Some v) None a b x y h ha hb = absurd h
+  branch-alike (Some v) (Some w) a b x y h ha hb = rw (alike-kind h, alike-truth h) (go (eq_kind kind.Boolean (kind_of w)) (truth w))
     where
-      go : (k z : Bool) → AlikeOutcomes R (cond k (cond z a b) Fault) (cond k (cond z x y) Fault)
+      go : (k z : Bool) → AlikeOutcomes R (cond k (cond z a b) None) (cond k (cond z x y) None)
       go true true = ha
       go true false = hb
       go false z = tt
 
-  boolean-alike : (o p : Outcome) → AlikeOutcomes R o p → AlikeOutcomes R (boolean_of o) (boolean_of p)
+  boolean-alike : (o p : Option Value) → AlikeOutcomes R o p → AlikeOutcomes R (boolean_of o) (boolean_of p)
   boolean-alike o p h = branch-alike o p _ _ _ _ h (same (Boolean true) tt) (same (Boolean false) tt)
 
   -- ---- an expression
 
   module _ (c d : Context) (bytes : (s t : Span) → R s t → c.text s ≡ d.text t) where
-    applied-alike : (found : Found) {os ps : List Outcome} → AllAlike R os ps → AlikeOutcomes R (applied c.text found os) (applied d.text found ps)
-    applied-alike Unknown h = tt
-    applied-alike (Known o) {os} {ps} h = rw (alike-faults h) (go (some_fault ps))
+    applied-alike : (found : Option Operation) {os ps : List (Option Value)} → AllAlike R os ps → AlikeOutcomes R (applied c.text found os) (applied d.text found ps)
+    applied-alike None h = tt
+    applied-alike (Some o) {os} {ps} h = rw (alike-faults h) (go (some_fault ps))
       where
-        go : (f : Bool) → AlikeOutcomes R (cond f Fault (meaning c.text o (map value_in os))) (cond f Fault (meaning d.text o (map value_in ps)))
+        go : (f : Bool) → AlikeOutcomes R (cond f None (meaning c.text o (map value_in os))) (cond f None (meaning d.text o (map value_in ps)))
         go true = tt
-        go false = meaning-alike c.text d.text bytes o (map value_in os) (map value_in ps) (alike-kinds h) (alike-operand h)
+        go false = meaning-alike c.text d.text bytes o (map value_in os) (map value_in ps) (alike-kinds h) (alike-joined h) (alike-operand h)
 
-    applied-one : (found : Found) (o p : Outcome) → AlikeOutcomes R o p → AlikeOutcomes R (applied c.text found (o ∷ [])) (applied d.text found (p ∷ []))
+    applied-one : (found : Option Operation) (o p : Option Value) → AlikeOutcomes R o p → AlikeOutcomes R (applied c.text found (o ∷ [])) (applied d.text found (p ∷ []))
     applied-one found o p h = applied-alike found (more o p h none)
 
-    binary-alike : (found : Found) (n : Need) (l r x y : Outcome) → AlikeOutcomes R l x → AlikeOutcomes R r y →
+    binary-alike : (found : Option Operation) (n : Need) (l r x y : Option Value) → AlikeOutcomes R l x → AlikeOutcomes R r y →
         AlikeOutcomes R (binary_by n c.text found l r) (binary_by n d.text found x y)
     binary-alike found Both l r x y hl hr = applied-alike found (more l x hl (more r y hr none))
     binary-alike found UntilTrue l r x y hl hr = branch-alike l x _ _ _ _ hl (same (Boolean true) tt) (boolean-alike r y hr)

@@ -1,5 +1,6 @@
 -- An expression without conditional, `&&` or `||` is refused exactly if it fails at some values that its properties may have. It fails at the worst of them: a
 -- property absent where it may be, else null where it may be.
+use Rattle.std.specs.Prelude.{Option, Some, None, Result, Ok, Err}
 use mathlib.Core.Path.{◌≡◌, refl, sym, ◌∙◌, ap, subst}
 use mathlib.Core.Bool.{Bool, true, false, cond, ◌&&◌, ◌||◌, true≢false}
 use mathlib.Core.List.{List, [], ◌∷◌, map}
@@ -18,12 +19,8 @@ use Rattle.kind.specs.Set.{has, set_of, single_of, union_of, within_of}
 use Rattle.kind.specs.Choice.{node_kinds}
 use Rattle.kind.specs.declared.kind.Kind.{Kind}
 use Rattle.kind.specs.declared.kind.Kind.TheVariants as kind
-use Rattle.kind.specs.declared.kind.Ruled.{Ruled}
-use Rattle.kind.specs.declared.kind.Ruled.TheVariants as rule
 use Rattle.kind.specs.declared.operation.Operation.{Operation}
 use Rattle.kind.specs.declared.set.Kinds.{Kinds}
-use Rattle.kind.specs.declared.choice.Checked.{Checked}
-use Rattle.kind.specs.declared.choice.Checked.TheVariants as checked
 use Rattle.kind.proofs.Choosing.{Among, refused, accepted}
 use Rattle.kind.proofs.Lacking.{lacks, lacking}
 use Rattle.kind.proofs.Law.Choices.{or_l, or_r, or_elim, has-set}
@@ -31,10 +28,6 @@ use Rattle.kind.proofs.Law.Sets.{has-union, in-single, single-is, in_left, in_ri
 use Rattle.value.specs.Value.{kind_of, nowhere}
 use Rattle.value.specs.Meaning.{meaning}
 use Rattle.value.specs.Name.{function_at, pick_at}
-use Rattle.value.specs.declared.apply.Outcome.{Outcome}
-use Rattle.value.specs.declared.apply.Outcome.TheVariants.{Fault, Worked}
-use Rattle.value.specs.declared.name.Found.{Found}
-use Rattle.value.specs.declared.name.Found.TheVariants.{Known, Unknown}
 use Rattle.value.specs.declared.value.Span.{Span}
 use Rattle.value.specs.declared.value.Value.{Value}
 use Rattle.value.specs.declared.value.Value.TheVariants.{Undefined, Null, Boolean, Number, String, Vec2, Vec3, Vec4}
@@ -44,8 +37,6 @@ use Rattle.checker.specs.Operator.{prefix_at, infix_at}
 use Rattle.checker.specs.Property.{Property, undeclared, declared, only_if, property_kinds}
 use Rattle.checker.specs.Kinds.{literal_kind, wrong_at, after, gathered, placed, operated, node_of, kinds_of, kinds_of_all, taken_by, result_of}
 use Rattle.checker.specs.Check.{answer_of}
-use Rattle.checker.specs.declared.check.Verdict.{Verdict}
-use Rattle.checker.specs.declared.check.Verdict.TheVariants.{Refused, Accepted}
 use Rattle.checker.specs.declared.check.Wanted.{Wanted}
 use Rattle.checker.specs.declared.check.Wanted.TheVariants as wanted
 use Rattle.evaluator.specs.Eval.{is_fault, value_in, some_fault, applied, need_of, Context, eval_of, eval_of_all}
@@ -53,6 +44,7 @@ use Rattle.evaluator.specs.Demand.{Allowed, Worst, Variables, VariablesOf, needs
 use Rattle.evaluator.proofs.Law.Outcomes.{both-needed}
 use Rattle.evaluator.proofs.Law.Variables.{both-variables, each-variable}
 use Rattle.evaluator.proofs.Sound.{never-fails}
+use Rattle.lexer.specs.declared.refusal.Refusal.{Refusal}
 
 -- ---- the worst values
 
@@ -101,12 +93,12 @@ worst-allowed (declared t false false) v e =
 -- ---- a verdict and an outcome go together
 
 -- what is refused faults, and what is accepted faults too or comes to a low value
-abbrev pub Falls : Verdict → Outcome → Type 0
-Falls (Refused p) o = o ≡ Fault
-Falls (Accepted s) Fault = Unit {0}
-Falls (Accepted s) (Worked v) = Low s v
+abbrev pub Falls : Result Kinds Refusal → Option Value → Type 0
+Falls (Err p) o = o ≡ None
+Falls (Ok s) None = Unit {0}
+Falls (Ok s) (Some v) = Low s v
 
-abbrev AllFall : List Verdict → List Outcome → Type 0
+abbrev AllFall : List (Result Kinds Refusal) → List (Option Value) → Type 0
 AllFall [] [] = Unit {0}
 AllFall [] (o ∷ os) = ⊥
 AllFall (a ∷ bs) [] = ⊥
@@ -119,7 +111,7 @@ Lows (s ∷ ss) [] = ⊥
 Lows (s ∷ ss) (v ∷ vs) = Low s v × Lows ss vs
 
 -- parts that are all accepted come to low values, unless one of them faults
-abbrev PartsFall : Judged (List Kinds) → List Outcome → Type 0
+abbrev PartsFall : Judged (List Kinds) → List (Option Value) → Type 0
 PartsFall (judged.refused p) os = T (some_fault os)
 PartsFall (fine ss) os = some_fault os ≡ false → Lows ss (map value_in os)
 
@@ -150,66 +142,66 @@ own-choice (s ∷ ss) (v ∷ vs) (k ∷ ks) l m = go l.0 (own-choice ss vs ks l.
 
 -- so the values' kinds fault, or the choice comes to what they come to
 settled : (o : Operation) (ss : List Kinds) (vs : List Value) (ks : List Kind) → Lows ss vs → Among ss ks →
-    (rule_of o (map kind_of vs) ≡ rule.Fault) ⊎ (rule_of o ks ≡ rule_of o (map kind_of vs))
+    (rule_of o (map kind_of vs) ≡ None) ⊎ (rule_of o ks ≡ rule_of o (map kind_of vs))
 settled o ss vs ks l m = ⊎_elim (lacking o ks (map kind_of vs) (as_many ss vs ks l m)) (λ e. inr (ap (rule_of o) e)) (own-choice ss vs ks l m)
 
 -- ---- a node
 
 -- the kind that a rule gives
-abbrev given_kind : Kind → Ruled → Kind
-given_kind d rule.Fault = d
-given_kind d (rule.Gives k) = k
+abbrev given_kind : Kind → Option Kind → Kind
+given_kind d None = d
+given_kind d (Some k) = k
 
-abbrev Given : Ruled → Type 0
-Given rule.Fault = ⊥
-Given (rule.Gives k) = Unit {0}
+abbrev Given : Option Kind → Type 0
+Given None = ⊥
+Given (Some k) = Unit {0}
 
-is-fault : (o : Outcome) → ruled o ≡ rule.Fault → o ≡ Fault
-is-fault Fault e = refl
-is-fault (Worked v) e = absurd (subst Given e tt)
+is-fault : (o : Option Value) → ruled o ≡ None → o ≡ None
+is-fault None e = refl
+is-fault (Some v) e = absurd (subst Given e tt)
 
-fault-falls : (p : ℕ) (c : Checked) → Falls (placed p c) Fault
-fault-falls p checked.Refused = refl
-fault-falls p (checked.Accepted s) = tt
+fault-falls : (p : ℕ) (c : Option Kinds) → Falls (placed p c) None
+fault-falls p None = refl
+fault-falls p (Some s) = tt
 
 -- a refused node has a choice that faults, and the values fault with it; the set of an accepted one has only the kind that they give
 node-falls : (text : Span → List ℕ) (p : ℕ) (o : Operation) (ss : List Kinds) (vs : List Value) → Lows ss vs →
     Falls (placed p (node_kinds o ss)) (meaning text o vs)
 node-falls text p o ss vs l = go (node_kinds o ss) refl (meaning text o vs) (kinded text o vs)
   where
-    go : (c : Checked) → node_kinds o ss ≡ c → (w : Outcome) → ruled w ≡ rule_of o (map kind_of vs) → Falls (placed p c) w
-    go checked.Refused e w f =
+    go : (c : Option Kinds) → node_kinds o ss ≡ c → (w : Option Value) → ruled w ≡ rule_of o (map kind_of vs) → Falls (placed p c) w
+    go None e w f =
         let c = refused o ss e in
         is-fault w (f ∙ ⊎_elim (λ x. x) (λ g. sym g ∙ c.2) (settled o ss vs c.0 l c.1))
-    go (checked.Accepted s) e Fault f = tt
-    go (checked.Accepted s) e (Worked v) f =
+    go (Some s) e None f = tt
+    go (Some s) e (Some v) f =
         inr (λ k h. let c = (accepted o ss s e k).0 h in
         ⊎_elim (λ x. absurd (subst Given (f ∙ x) tt)) (λ g. ap (given_kind k) (sym c.2 ∙ g ∙ sym f)) (settled o ss vs c.0 l c.1))
 
-operated-falls : (text : Span → List ℕ) (p : ℕ) (found : Found) (ps : Judged (List Kinds)) (os : List Outcome) → PartsFall ps os →
+operated-falls : (text : Span → List ℕ) (p : ℕ) (found : Option Operation) (ps : Judged (List Kinds)) (os : List (Option Value)) → PartsFall ps os →
     Falls (operated p found ps) (applied text found os)
-operated-falls text p Unknown (judged.refused q) os h = refl
-operated-falls text p (Known o) (judged.refused q) os h = rw (is_true (some_fault os) h)
-operated-falls text p Unknown (fine ss) os h = refl
-operated-falls text p (Known o) (fine ss) os h = go (some_fault os) refl
+operated-falls text p None (judged.refused q) os h = refl
+operated-falls text p (Some o) (judged.refused q) os h = rw (is_true (some_fault os) h)
+operated-falls text p None (fine ss) os h = refl
+operated-falls text p (Some o) (fine ss) os h = go (some_fault os) refl
   where
-    go : (b : Bool) → some_fault os ≡ b → Falls (placed p (node_kinds o ss)) (cond b Fault (meaning text o (map value_in os)))
+    go : (b : Bool) → some_fault os ≡ b → Falls (placed p (node_kinds o ss)) (cond b None (meaning text o (map value_in os)))
     go true e = fault-falls p (node_kinds o ss)
     go false e = node-falls text p o ss (map value_in os) (h e)
 
-after-falls : (s : Kinds) (ps : Judged (List Kinds)) (o : Outcome) (os : List Outcome) → Falls (Accepted s) o → PartsFall ps os → PartsFall (after s ps) (o ∷ os)
+after-falls : (s : Kinds) (ps : Judged (List Kinds)) (o : Option Value) (os : List (Option Value)) → Falls (Ok s) o → PartsFall ps os → PartsFall (after s ps) (o ∷ os)
 after-falls s (judged.refused p) o os h hs = or_r (is_fault o) (some_fault os) hs
-after-falls s (fine ss) Fault os h hs = λ e. absurd (true≢false e)
-after-falls s (fine ss) (Worked v) os h hs = λ e. (h, hs e)
+after-falls s (fine ss) None os h hs = λ e. absurd (true≢false e)
+after-falls s (fine ss) (Some v) os h hs = λ e. (h, hs e)
 
-gathered-falls : (bs : List Verdict) (os : List Outcome) → AllFall bs os → PartsFall (gathered bs) os
+gathered-falls : (bs : List (Result Kinds Refusal)) (os : List (Option Value)) → AllFall bs os → PartsFall (gathered bs) os
 gathered-falls [] [] h = λ e. tt
 gathered-falls [] (o ∷ os) h = absurd h
 gathered-falls (a ∷ bs) [] h = absurd h
-gathered-falls (Refused p ∷ bs) (o ∷ os) h = subst (λ (o : Outcome). T (is_fault o || some_fault os)) (sym h.0) tt
-gathered-falls (Accepted s ∷ bs) (o ∷ os) h = after-falls s (gathered bs) o os h.0 (gathered-falls bs os h.1)
+gathered-falls (Err p ∷ bs) (o ∷ os) h = subst (λ (o : Option Value). T (is_fault o || some_fault os)) (sym h.0) tt
+gathered-falls (Ok s ∷ bs) (o ∷ os) h = after-falls s (gathered bs) o os h.0 (gathered-falls bs os h.1)
 
-parts-fall : (text : Span → List ℕ) (p : ℕ) (found : Found) (bs : List Verdict) (os : List Outcome) → AllFall bs os →
+parts-fall : (text : Span → List ℕ) (p : ℕ) (found : Option Operation) (bs : List (Result Kinds Refusal)) (os : List (Option Value)) → AllFall bs os →
     Falls (node_of p found bs) (applied text found os)
 parts-fall text p found bs os h = operated-falls text p found (gathered bs) os (gathered-falls bs os h)
 
@@ -219,7 +211,7 @@ module _ (c : Context) (look : ℕ → ℕ → Kinds) (literals : (p k : ℕ) �
   mutual
     unfolding kinds_of eval_of Variables
 
-    pub falls : (e : Tree) → T (plain e) → Variables (λ p n. Falls (Accepted (look p n)) (c.variables p n)) e → Falls (kinds_of look e) (eval_of c e)
+    pub falls : (e : Tree) → T (plain e) → Variables (λ p n. Falls (Ok (look p n)) (c.variables p n)) e → Falls (kinds_of look e) (eval_of c e)
     falls (literal p k) t h = inr (λ j m. sym (single-is (literal_kind k) j m) ∙ sym (literals p k))
     falls (variable p n) t h = h
     falls (unary p o e) t h = parts-fall c.text p (prefix_at o) (kinds_of look e ∷ []) (eval_of c e ∷ []) (falls e t h, tt)
@@ -234,7 +226,7 @@ module _ (c : Context) (look : ℕ → ℕ → Kinds) (literals : (p k : ℕ) �
     falls (call p f xs) t h = parts-fall c.text p (function_at f) (kinds_of_all look xs) (eval_of_all c xs) (all-fall xs t h)
     falls (pick p i e) t h = parts-fall c.text p (pick_at i) (kinds_of look e ∷ []) (eval_of c e ∷ []) (falls e t h, tt)
 
-    all-fall : (xs : Arguments) → T (plain_all xs) → VariablesOf (λ p n. Falls (Accepted (look p n)) (c.variables p n)) xs →
+    all-fall : (xs : Arguments) → T (plain_all xs) → VariablesOf (λ p n. Falls (Ok (look p n)) (c.variables p n)) xs →
         AllFall (kinds_of_all look xs) (eval_of_all c xs)
     all-fall (last e) t h = (falls e t h, tt)
     all-fall (next e q xs) t h = (falls e (and_l (plain e) (plain_all xs) t) h.0, all-fall xs (and_r (plain e) (plain_all xs) t) h.1)
@@ -252,12 +244,12 @@ low-within wanted.Any s v (inl x) h = is_within s (set_of (λ k. true)) (λ k m.
 low-within wanted.Boolean s v (inl x) h = absurd (taken-lacks kind.Boolean v h x)
 low-within wanted.Vec4 s v (inl x) h = absurd (taken-lacks kind.Vec4 v h x)
 
-pub result-fails : (want : Wanted) (end : ℕ) (a : Verdict) (o : Outcome) → Falls a o → T (is_refused (answer_of (result_of want end a))) → T (fails want o)
-result-fails want end (Refused p) o h r = subst (λ (o : Outcome). T (fails want o)) (sym h) tt
-result-fails want end (Accepted s) Fault h r = tt
-result-fails want end (Accepted s) (Worked v) h r = not_T (has (taken_by want) (kind_of v)) (λ m. go (within_of s (taken_by want)) (low-within want s v h m) r)
+pub result-fails : (want : Wanted) (end : ℕ) (a : Result Kinds Refusal) (o : Option Value) → Falls a o → T (is_refused (answer_of (result_of want end a))) → T (fails want o)
+result-fails want end (Err p) o h r = subst (λ (o : Option Value). T (fails want o)) (sym h) tt
+result-fails want end (Ok s) None h r = tt
+result-fails want end (Ok s) (Some v) h r = not_T (has (taken_by want) (kind_of v)) (λ m. go (within_of s (taken_by want)) (low-within want s v h m) r)
   where
-    go : (w : Bool) → T w → T (is_refused (answer_of (cond w (Accepted s) (wrong_at end)))) → ⊥
+    go : (w : Bool) → T w → T (is_refused (answer_of (cond w (Ok s) (wrong_at end)))) → ⊥
     go true h r = r
     go false h r = h
 
@@ -296,7 +288,7 @@ module _ {N : Type 0} (name : ℕ → ℕ → N) (properties : N → Property) (
     (looked : Variables (λ p n. look p n ≡ property_kinds (properties (name p n))) e) (want : Wanted) (end : ℕ) where
   -- each name with a value
   abbrev with_values : (N → Value) → Context
-  with_values values = record { text = text; literals = literals; variables = λ p n. Worked (values (name p n)) }
+  with_values values = record { text = text; literals = literals; variables = λ p n. Some (values (name p n)) }
 
   -- a refused expression fails at any values that are worst for its own variables
   pub worst-fails : (values : N → Value) → Variables (λ p n. Worst (properties (name p n)) (values (name p n))) e → T (is_refused (answer_of (result_of want end (kinds_of look e)))) →

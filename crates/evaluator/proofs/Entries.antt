@@ -1,4 +1,5 @@
 -- An expression that comes to a value has no fault inside: of the nodes that are entered none faults.
+use Rattle.std.specs.Prelude.{Option, Some, None}
 use mathlib.Core.Path.{◌≡◌, refl, sym}
 use mathlib.Core.Bool.{Bool, true, false, cond, ◌||◌, ◌&&◌, beq, true≢false}
 use mathlib.Core.List.{List, [], ◌∷◌, ◌++◌, map}
@@ -8,10 +9,6 @@ use Rattle.kind.specs.declared.kind.Kind.TheVariants as kind
 use Rattle.value.specs.Value.{kind_of, truth}
 use Rattle.value.specs.Meaning.{meaning}
 use Rattle.value.specs.Name.{function_at, pick_at}
-use Rattle.value.specs.declared.name.Found.{Found}
-use Rattle.value.specs.declared.name.Found.TheVariants.{Known, Unknown}
-use Rattle.value.specs.declared.apply.Outcome.{Outcome}
-use Rattle.value.specs.declared.apply.Outcome.TheVariants.{Fault, Worked}
 use Rattle.value.specs.declared.value.Span.{Span}
 use Rattle.value.specs.declared.value.Value.TheVariants.{Boolean}
 use Rattle.tree.specs.Tree.{Tree, literal, variable, unary, binary, conditional, bare, call, pick, Arguments, last, next}
@@ -20,6 +17,8 @@ use Rattle.evaluator.specs.Eval.{is_fault, value_in, some_fault, applied, branch
 use Rattle.evaluator.specs.declared.need.Need.{Need}
 use Rattle.evaluator.specs.declared.need.Need.TheVariants.{Both, UntilTrue, UntilFalse}
 use Rattle.evaluator.specs.Entries.{Entered, entered_if, entries_of, entries_of_all, NoneFaults}
+use Rattle.kind.specs.declared.operation.Operation.{Operation}
+use Rattle.value.specs.declared.value.Value.{Value}
 
 -- ---- lists of entries
 
@@ -42,39 +41,39 @@ no_second : (a b : Bool) → (a || b) ≡ false → b ≡ false
 no_second true b h = absurd (true≢false h)
 no_second false b h = h
 
-applied-fine : (text : Span → List ℕ) (found : Found) (os : List Outcome) → is_fault (applied text found os) ≡ false → some_fault os ≡ false
-applied-fine text Unknown os h = absurd (true≢false h)
-applied-fine text (Known o) os h = go (some_fault os) h
+applied-fine : (text : Span → List ℕ) (found : Option Operation) (os : List (Option Value)) → is_fault (applied text found os) ≡ false → some_fault os ≡ false
+applied-fine text None os h = absurd (true≢false h)
+applied-fine text (Some o) os h = go (some_fault os) h
   where
-    go : (b : Bool) → is_fault (cond b Fault (meaning text o (map value_in os))) ≡ false → b ≡ false
+    go : (b : Bool) → is_fault (cond b None (meaning text o (map value_in os))) ≡ false → b ≡ false
     go true h = absurd (true≢false h)
     go false h = refl
 
 -- of a test that has to be a Boolean, and the branch that it comes to
-pub record BranchFine (o a b : Outcome) : Type 0 where
+pub record BranchFine (o a b : Option Value) : Type 0 where
   pub test : is_fault o ≡ false
   pub first : came_to true o ≡ true → is_fault a ≡ false
   pub second : came_to false o ≡ true → is_fault b ≡ false
 
-branch-fine : (o a b : Outcome) → is_fault (branch_of o a b) ≡ false → BranchFine o a b
-branch-fine Fault a b h = absurd (true≢false h)
-branch-fine (Worked v) a b h = record { test = refl; first = (go (eq_kind kind.Boolean (kind_of v)) (truth v) h).0; second = (go (eq_kind kind.Boolean (kind_of v)) (truth v) h).1 }
+branch-fine : (o a b : Option Value) → is_fault (branch_of o a b) ≡ false → BranchFine o a b
+branch-fine None a b h = absurd (true≢false h)
+branch-fine (Some v) a b h = record { test = refl; first = (go (eq_kind kind.Boolean (kind_of v)) (truth v) h).0; second = (go (eq_kind kind.Boolean (kind_of v)) (truth v) h).1 }
   where
-    go : (k t : Bool) → is_fault (cond k (cond t a b) Fault) ≡ false →
+    go : (k t : Bool) → is_fault (cond k (cond t a b) None) ≡ false →
         ((k && beq true t) ≡ true → is_fault a ≡ false) × ((k && beq false t) ≡ true → is_fault b ≡ false)
     go false t h = absurd (true≢false h)
     go true true h = ((λ e. h), (λ e. absurd (true≢false (sym e))))
     go true false h = ((λ e. absurd (true≢false (sym e))), (λ e. h))
 
-boolean-fine : (o : Outcome) → is_fault (boolean_of o) ≡ false → is_fault o ≡ false
-boolean-fine o h = (branch-fine o (Worked (Boolean true)) (Worked (Boolean false)) h).test
+boolean-fine : (o : Option Value) → is_fault (boolean_of o) ≡ false → is_fault o ≡ false
+boolean-fine o h = (branch-fine o (Some (Boolean true)) (Some (Boolean false)) h).test
 
 -- of an operator with two sides, the right of which may be passed over
-pub record SidesFine (need : Need) (l r : Outcome) : Type 0 where
+pub record SidesFine (need : Need) (l r : Option Value) : Type 0 where
   pub left : is_fault l ≡ false
   pub right : needs_right need l ≡ true → is_fault r ≡ false
 
-sides-fine : (need : Need) (text : Span → List ℕ) (found : Found) (l r : Outcome) → is_fault (binary_by need text found l r) ≡ false → SidesFine need l r
+sides-fine : (need : Need) (text : Span → List ℕ) (found : Option Operation) (l r : Option Value) → is_fault (binary_by need text found l r) ≡ false → SidesFine need l r
 sides-fine Both text found l r h =
     let k = applied-fine text found (l ∷ r ∷ []) h in
     record {
@@ -82,17 +81,17 @@ sides-fine Both text found l r h =
       right = λ e. no-first (is_fault r) false (no_second (is_fault l) (is_fault r || false) k);
     }
 sides-fine UntilTrue text found l r h =
-    let f = branch-fine l (Worked (Boolean true)) (boolean_of r) h in
+    let f = branch-fine l (Some (Boolean true)) (boolean_of r) h in
     record { left = f.test; right = λ e. boolean-fine r (f.second e) }
 sides-fine UntilFalse text found l r h =
-    let f = branch-fine l (boolean_of r) (Worked (Boolean false)) h in
+    let f = branch-fine l (boolean_of r) (Some (Boolean false)) h in
     record { left = f.test; right = λ e. boolean-fine r (f.first e) }
 
 -- ---- an expression
 
 module _ (c : Context) (naming : ℕ → ℕ → List Entered) (named : (p n : ℕ) → is_fault (c.variables p n) ≡ false → NoneFaults (naming p n)) where
   -- of the part of a node that has one
-  part-fine : (found : Found) (e : Tree) → is_fault (applied c.text found (eval_of c e ∷ [])) ≡ false → is_fault (eval_of c e) ≡ false
+  part-fine : (found : Option Operation) (e : Tree) → is_fault (applied c.text found (eval_of c e ∷ [])) ≡ false → is_fault (eval_of c e) ≡ false
   part-fine found e h = no-first (is_fault (eval_of c e)) false (applied-fine c.text found (eval_of c e ∷ []) h)
 
   mutual

@@ -1,11 +1,9 @@
 -- What the theorems about checked expressions speak of: page 01, "Kinds and meaning" and "What each answer owes".
-use Rattle.std.specs.Prelude.{◌≡◌, Bool, true, false, not, ◌&&◌, ℕ, T}
+use Rattle.std.specs.Prelude.{◌≡◌, Bool, true, false, not, ◌&&◌, ℕ, T, Option, Some, None}
 use Rattle.lexer.specs.Refusal.{Judged, refused, fine}
 use Rattle.kind.specs.Set.{has}
 use Rattle.kind.specs.declared.set.Kinds.{Kinds}
 use Rattle.value.specs.Value.{kind_of}
-use Rattle.value.specs.declared.apply.Outcome.{Outcome}
-use Rattle.value.specs.declared.apply.Outcome.TheVariants.{Fault, Worked}
 use Rattle.value.specs.declared.value.Value.{Value}
 use Rattle.value.specs.declared.value.Value.TheVariants.{Undefined, Null}
 use Rattle.tree.specs.Tree.{Tree, literal, variable, unary, binary, conditional, bare, call, pick, Arguments, last, next}
@@ -20,13 +18,13 @@ use Rattle.evaluator.specs.declared.need.Need.TheVariants.{Both, UntilTrue, Unti
 -- ---- values that conform
 
 -- what a variable comes to conforms to a set: it is a value of one of its kinds
-abbrev pub Conforms : Kinds → Outcome → Type 0
-Conforms s Fault = ⊥
-Conforms s (Worked v) = T (has s (kind_of v))
+abbrev pub Conforms : Kinds → Option Value → Type 0
+Conforms s None = ⊥
+Conforms s (Some v) = T (has s (kind_of v))
 
 -- a value that a property may have
 abbrev pub Allowed : Property → Value → Type 0
-Allowed p v = Conforms (property_kinds p) (Worked v)
+Allowed p v = Conforms (property_kinds p) (Some v)
 
 -- the worst value that a property may have: none if it may be absent, else null if it may be null, else any of its type
 abbrev pub Worst : Property → Value → Type 0
@@ -82,6 +80,6 @@ is_refused (refused r) = true
 is_refused (fine s) = false
 
 -- it faults ("to meet a kind or count not taken is what this page calls a fault"), or ends in a kind that is not wanted
-abbrev pub fails : Wanted → Outcome → Bool
-fails want Fault = true
-fails want (Worked v) = not (has (taken_by want) (kind_of v))
+abbrev pub fails : Wanted → Option Value → Bool
+fails want None = true
+fails want (Some v) = not (has (taken_by want) (kind_of v))

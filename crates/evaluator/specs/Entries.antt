@@ -1,15 +1,15 @@
 -- The nodes that are entered while an expression is worked out, each with what it comes to: page 01, "Kinds and meaning" ("Every node's
 -- answer is worked out from its parts' answers, left to right."; "`&&`, `||` and `? :` work out only the part they need"). A node stands
 -- before its parts; brackets are no node, and a part that is passed over is not entered.
-use Rattle.std.specs.Prelude.{◌≡◌, Bool, true, false, List, [], ◌∷◌, ◌++◌, ℕ}
-use Rattle.value.specs.declared.apply.Outcome.{Outcome}
+use Rattle.std.specs.Prelude.{◌≡◌, Bool, true, false, List, [], ◌∷◌, ◌++◌, ℕ, Option}
 use Rattle.tree.specs.Tree.{Tree, literal, variable, unary, binary, conditional, bare, call, pick, Arguments, last, next}
 use Rattle.checker.specs.Operator.{infix_at}
 use Rattle.evaluator.specs.Eval.{is_fault, need_of, came_to, needs_right, Context, eval_of}
+use Rattle.value.specs.declared.value.Value.{Value}
 
 pub record Entered : Type 0 where
   pub node : Tree
-  pub outcome : Outcome
+  pub outcome : Option Value
 
 -- of a part that may be passed over
 abbrev pub entered_if : Bool → List Entered → List Entered

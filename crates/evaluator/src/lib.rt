@@ -1,7 +1,6 @@
 // What an expression comes to for a feature: page 01, "Kinds and meaning".
 #![tactic(auto)]
 
-mod arguments;
 pub mod evaluate;
 mod literal;
 pub mod need;

@@ -1,200 +1,156 @@
 // A feature of a case: a line, the text that its strings lie in, the parts of its values, each on a
 // line, and what the expression comes to.
+use crate::expression::Expression;
 use crate::values;
 use cases::line;
-use evaluator::evaluate::evaluate;
+use evaluator::evaluate::Scene;
+use evaluator::values::Values;
 use number::bits::from_bits;
-use plan::layout::{COMPONENTS, FLOATS, Floats, SPAN, SPANS, Spans, UNDECLARED};
+use plan::layout::UNDECLARED;
+use reports::case::Case;
 use reports::{read, report};
 use std::io::Read;
-use value::apply::Outcome;
+use value::texts::Texts;
+use value::value::{Span, Value};
 
 const LINE: usize = 11;
 
 const PART: usize = 24;
 
-// ---- the values
+const COMPONENTS: usize = 4;
 
-// A part is the kind of a name's value and one of its four floats, or its two places. A value has what
-// is no part of its kind too, which the evaluator has to leave alone.
-fn put(line: &[u8], spans: &mut Spans, floats: &mut Floats) -> bool {
+// What the parts of a value say: the digit of its kind, its two places and its four floats.
+#[derive(Clone, Copy, Drop)]
+struct Parts {
+    kind: u64,
+    start: usize,
+    end: usize,
+    floats: [f64; COMPONENTS],
+}
+
+// No part: the value is Undefined.
+const NONE: Parts = Parts {
+    kind: 0,
+    start: 0,
+    end: 0,
+    floats: [0.0; COMPONENTS],
+};
+
+impl Parts {
+    // A String of the feature's text is of kind 4, and one of the style's of kind 8.
+    fn value(self) -> Value {
+        let Parts {
+            kind,
+            start,
+            end,
+            floats,
+        } = self;
+        let [x, y, z, w] = floats;
+        match kind {
+            1 => Value::Null,
+            2 => Value::Boolean(start == 1),
+            3 => Value::Number(x),
+            4 | 8 => Value::String(Span {
+                literal: kind == 8,
+                start,
+                end,
+            }),
+            5 => Value::Vec2(x, y),
+            6 => Value::Vec3(x, y, z),
+            7 => Value::Vec4(x, y, z, w),
+            _ => Value::Undefined,
+        }
+    }
+}
+
+// A part is the kind of a name's value and one of its four floats, or its two places.
+fn read_part(file: &mut impl Read, values: &mut [Parts; UNDECLARED]) -> Option<()> {
+    let mut room = [0u8; PART];
+    let line = read::line(file, &mut room)?;
     let number = line::number(line, 0, 2) as usize;
     let i = line::number(line, 5, 6) as usize;
     if !line::fits(line, b"hh h h hhhhhhhhhhhhhhhh\n") {
-        return false;
+        return None;
     }
-    if number < UNDECLARED {
-        if i < COMPONENTS {
-            spans[SPAN * number] = line::number(line, 3, 4) as usize;
-            spans[SPAN * number + 1] = line::number(line, 7, 15) as usize;
-            spans[SPAN * number + 2] = line::number(line, 15, 23) as usize;
-            floats[COMPONENTS * number + i] = from_bits(line::number(line, 7, 23));
-            return true;
-        }
+    if (UNDECLARED <= number) | (COMPONENTS <= i) {
+        return None;
     }
-    false
+    let parts = &mut values[number];
+    parts.kind = line::number(line, 3, 4);
+    parts.start = line::number(line, 7, 15) as usize;
+    parts.end = line::number(line, 15, 23) as usize;
+    parts.floats[i] = from_bits(line::number(line, 7, 23));
+    Some(())
 }
 
-fn read_part(file: &mut impl Read, spans: &mut Spans, floats: &mut Floats) -> bool {
-    let mut line = [0u8; PART];
-    let n = read::some(file, &mut line);
-    put(&line[..n], spans, floats)
-}
-
-// Reads so many parts. A number that none is for stays Undefined.
-fn read_parts(file: &mut impl Read, count: u64, spans: &mut Spans, floats: &mut Floats) -> bool {
+// The values that so many parts make. A number that none is for stays Undefined.
+fn read_values(file: &mut impl Read, count: u64) -> Option<Values> {
+    let mut values = [NONE; UNDECLARED];
     for _ in 0..count {
-        if !read_part(file, spans, floats) {
-            return false;
-        }
+        read_part(file, &mut values)?;
     }
-    true
+    Some(values.map(|parts| parts.value()))
 }
-
-// ---- the outcome
 
 fn outcome_agrees(
-    rt: &impl Print,
-    name: &[u8],
-    head: &[u8],
-    style: &[u8],
-    feature: &[u8],
+    case: &Case<'_, impl Print>,
+    texts: Texts<'_>,
     wanted: &[u8],
-    outcome: Outcome,
+    outcome: Option<Value>,
 ) -> bool {
-    if values::agree(style, feature, wanted, outcome) {
+    if values::agree(texts, wanted, outcome) {
         return true;
     }
-    report::text_difference(rt, name, head, style);
-    report::text(rt, feature);
-    report::text(rt, b"\nwanted ");
-    report::text(rt, wanted);
-    values::print(rt, style, feature, outcome);
+    case.text_difference(texts.style);
+    report::text(case.rt, texts.feature);
+    report::text(case.rt, b"\nwanted ");
+    report::text(case.rt, wanted);
+    values::print(case.rt, texts, outcome);
     false
 }
 
-fn read_outcome(
-    rt: &impl Print,
-    file: &mut impl Read,
-    name: &[u8],
-    head: &[u8],
-    style: &[u8],
-    feature: &[u8],
-    wanted: &mut [u8],
-    outcome: Outcome,
-) -> bool {
-    if read::text(file, wanted) {
-        return outcome_agrees(rt, name, head, style, feature, wanted, outcome);
-    }
-    report::malformed(rt, name, head)
-}
-
-// Lends the room for what is wanted.
-fn with_outcome(
-    rt: &impl Print,
-    file: &mut impl Read,
-    name: &[u8],
-    head: &[u8],
-    style: &[u8],
-    feature: &[u8],
-    length: usize,
-    outcome: Outcome,
-) -> bool {
-    if length <= read::MOST {
-        let mut room = [0u8; read::MOST];
-        return read_outcome(
-            rt,
-            file,
-            name,
-            head,
-            style,
-            feature,
-            &mut room[..length],
-            outcome,
-        );
-    }
-    report::malformed(rt, name, head)
-}
-
-// ---- the feature
-
-fn values_agree(
-    rt: &impl Print,
-    file: &mut impl Read,
-    name: &[u8],
-    head: &[u8],
-    line: &[u8],
-    style: &[u8],
-    feature: &[u8],
-    slots: &[u16],
-    base: usize,
-    root: usize,
-) -> bool {
-    let mut spans = [0usize; SPANS];
-    let mut floats = [0.0f64; FLOATS];
-    let count = line::number(line, 4, 6);
-    if read_parts(file, count, &mut spans, &mut floats) {
-        let outcome = evaluate(style, feature, slots, &spans, &floats, base, root);
-        let length = line::number(line, 7, 10) as usize;
-        return with_outcome(rt, file, name, head, style, feature, length, outcome);
-    }
-    report::malformed(rt, name, line)
-}
-
-fn text_agrees(
-    rt: &impl Print,
-    file: &mut impl Read,
-    name: &[u8],
-    head: &[u8],
-    line: &[u8],
-    style: &[u8],
-    feature: &mut [u8],
-    slots: &[u16],
-    base: usize,
-    root: usize,
-) -> bool {
-    if read::text(file, feature) {
-        return values_agree(
-            rt, file, name, head, line, style, feature, slots, base, root,
-        );
-    }
-    report::malformed(rt, name, line)
-}
-
-// Lends the room for the feature's text.
+// None if the feature's line is malformed, or what stands behind it up to what is wanted.
 fn line_agrees(
-    rt: &impl Print,
+    case: &Case<'_, impl Print>,
     file: &mut impl Read,
-    name: &[u8],
-    head: &[u8],
     line: &[u8],
-    style: &[u8],
-    slots: &[u16],
-    base: usize,
-    root: usize,
-) -> bool {
-    let length = line::number(line, 0, 3) as usize;
-    if line::fits(line, b"hhh hh hhh\n") {
-        if length <= read::MOST {
-            let mut room = [0u8; read::MOST];
-            let text = &mut room[..length];
-            return text_agrees(rt, file, name, head, line, style, text, slots, base, root);
-        }
+    expression: &Expression<'_>,
+) -> Option<bool> {
+    if !line::fits(line, b"hhh hh hhh\n") {
+        return None;
     }
-    report::malformed(rt, name, line)
+    let Expression {
+        style,
+        base,
+        slots,
+        root,
+    } = *expression;
+    let (mut feature, mut wanted) = ([0u8; read::MOST], [0u8; read::MOST]);
+    let feature = read::text(file, &mut feature, line::number(line, 0, 3) as usize)?;
+    let values = read_values(file, line::number(line, 4, 6))?;
+    let texts = Texts { style, feature };
+    let scene = Scene {
+        texts,
+        slots,
+        values: &values,
+        base,
+    };
+    let outcome = scene.evaluate(root);
+    match read::text(file, &mut wanted, line::number(line, 7, 10) as usize) {
+        Some(wanted) => Some(outcome_agrees(case, texts, wanted, outcome)),
+        None => Some(case.malformed()),
+    }
 }
 
 pub(crate) fn agrees(
-    rt: &impl Print,
+    case: &Case<'_, impl Print>,
     file: &mut impl Read,
-    name: &[u8],
-    head: &[u8],
-    style: &[u8],
-    slots: &[u16],
-    base: usize,
-    root: usize,
+    expression: &Expression<'_>,
 ) -> bool {
-    let mut line = [0u8; LINE];
-    let n = read::some(file, &mut line);
-    line_agrees(rt, file, name, head, &line[..n], style, slots, base, root)
+    let mut room = [0u8; LINE];
+    let line = read::line(file, &mut room).unwrap_or(b"");
+    match line_agrees(case, file, line, expression) {
+        Some(same) => same,
+        None => Case { line, ..*case }.malformed(),
+    }
 }

@@ -1,20 +1,19 @@
 // Kinds as digits.
-use cases::line;
 use kind::kind::{Kind, number};
 
-pub(crate) fn of_digit(digit: u8) -> Kind {
+pub(crate) fn of_digit(digit: u64) -> Kind {
     match digit {
-        b'0' => Kind::Undefined,
-        b'1' => Kind::Null,
-        b'2' => Kind::Boolean,
-        b'3' => Kind::Number,
-        b'4' => Kind::String,
-        b'5' => Kind::Vec2,
-        b'6' => Kind::Vec3,
+        0 => Kind::Undefined,
+        1 => Kind::Null,
+        2 => Kind::Boolean,
+        3 => Kind::Number,
+        4 => Kind::String,
+        5 => Kind::Vec2,
+        6 => Kind::Vec3,
         _ => Kind::Vec4,
     }
 }
 
 pub(crate) fn digit(k: Kind) -> u8 {
-    line::low_byte(b'0' as u64 + number(k) as u64)
+    b'0'.wrapping_add(number(k))
 }

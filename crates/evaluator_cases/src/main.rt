@@ -11,66 +11,37 @@ mod kinds;
 mod names;
 mod values;
 
-use cases::tally;
-use cases::tally::{Outcome, Tally, sum};
-use reports::report;
-use std::fs::File;
-use std::io::Read;
-use std::rt::Files;
+use cases::tally::Tally;
+use reports::{count, report};
 
-fn count_cases(rt: &impl Print, file: &mut impl Read, name: &[u8]) -> Tally {
-    let mut t = tally::NONE;
-    for _ in 0..tally::MOST_CASES {
-        let o = case::next(rt, file, name);
-        if let Outcome::End = o {
-            return t;
-        }
-        t = tally::with(t, o);
-    }
-    t
-}
-
-fn run(rt: &(impl Files + Print), path: &str) -> Tally {
-    let name = path.as_bytes();
-    match File::open(rt, path) {
-        Ok(mut file) => {
-            let t = count_cases(rt, &mut file, name);
-            report::counts(rt, name, t)
-        }
-        Err(_) => report::missing(rt, name),
-    }
-}
-
-// What single nodes are, and their places.
-fn nodes(rt: &(impl Files + Print)) -> Tally {
-    let mut t = run(rt, "examples");
-    t = sum(t, run(rt, "literals"));
-    t = sum(t, run(rt, "operators"));
-    t = sum(t, run(rt, "functions"));
-    t = sum(t, run(rt, "picks"));
-    sum(t, run(rt, "conditionals"))
-}
-
-// How nodes stand together, and what they stand for.
-fn trees(rt: &(impl Files + Print)) -> Tally {
-    let mut t = run(rt, "results");
-    t = sum(t, run(rt, "orders"));
-    t = sum(t, run(rt, "lazy"));
-    t = sum(t, run(rt, "names"));
-    t = sum(t, run(rt, "strings"));
-    t = sum(t, run(rt, "numbers"));
-    sum(t, run(rt, "heights"))
-}
-
-fn random(rt: &(impl Files + Print)) -> Tally {
-    let mut t = run(rt, "fitting");
-    t = sum(t, run(rt, "damage"));
-    sum(t, run(rt, "random"))
-}
+// What single nodes are, and their places; how nodes stand together, and what they stand for; and
+// expressions at random.
+const FILES: [&str; 16] = [
+    "examples",
+    "literals",
+    "operators",
+    "functions",
+    "picks",
+    "conditionals",
+    "results",
+    "orders",
+    "lazy",
+    "names",
+    "strings",
+    "numbers",
+    "heights",
+    "fitting",
+    "damage",
+    "random",
+];
 
 fn main(rt: HostRuntime) {
-    let mut t = nodes(&rt);
-    t = sum(t, trees(&rt));
-    t = sum(t, random(&rt));
-    report::counts(&rt, b"total", t);
+    let mut total = Tally::default();
+    for name in FILES {
+        total = total
+            + count::file(&rt, name, |mut file| {
+                count::all(|| case::next(&rt, &mut file, name))
+            });
+    }
+    report::counts(&rt, "total", total);
 }

@@ -9,46 +9,42 @@ use std::io::Read;
 
 const LINE: usize = 16;
 
-// Of the flags the first bit is set if it may be absent, the second if it may be null.
-fn property_set(line: &[u8]) -> u16 {
-    let flags = line::number(line, 11, 12);
-    let kind = kinds::of_digit(line::byte(line, 14));
-    packed(property::kinds(kind, flags & 1 != 0, flags & 2 != 0))
-}
-
+// Of a property's flags the first bit is set if it may be absent, the second if it may be null.
 fn set_of(line: &[u8], number: usize) -> u16 {
     if number < FIRST_DEFINE {
-        property_set(line)
+        let flags = line::number(line, 11, 12);
+        let kind = kinds::of_digit(line::number(line, 14, 15));
+        packed(property::kinds(kind, flags & 1 != 0, flags & 2 != 0))
     } else {
-        line::low_byte(line::number(line, 13, 15)) as u16
+        u16::from(line::low_byte(line::number(line, 13, 15)))
     }
 }
 
-fn put(line: &[u8], names: &mut Names, plan: &mut Plan) -> bool {
+fn read_one(file: &mut impl Read, names: &mut Names, plan: &mut Plan) -> Option<()> {
+    let mut room = [0u8; LINE];
+    let line = reports::read::line(file, &mut room)?;
     let number = line::number(line, 0, 2) as usize;
-    if line::fits(line, b"hh hhh hhh h hh\n") {
-        if number < UNDECLARED {
-            names[2 * number] = line::number(line, 3, 6) as usize;
-            names[2 * number + 1] = line::number(line, 7, 10) as usize;
-            plan[SETS + number] = set_of(line, number);
-            return true;
-        }
+    if !line::fits(line, b"hh hhh hhh h hh\n") {
+        return None;
     }
-    false
-}
-
-fn read_one(file: &mut impl Read, names: &mut Names, plan: &mut Plan) -> bool {
-    let mut line = [0u8; LINE];
-    let n = reports::read::some(file, &mut line);
-    put(&line[..n], names, plan)
+    if UNDECLARED <= number {
+        return None;
+    }
+    names[2 * number] = line::number(line, 3, 6) as usize;
+    names[2 * number + 1] = line::number(line, 7, 10) as usize;
+    plan[SETS + number] = set_of(line, number);
+    Some(())
 }
 
 // Reads so many lines. A number that none is for keeps the empty name, which no variable has.
-pub(crate) fn read(file: &mut impl Read, count: u64, names: &mut Names, plan: &mut Plan) -> bool {
+pub(crate) fn read(
+    file: &mut impl Read,
+    count: u64,
+    names: &mut Names,
+    plan: &mut Plan,
+) -> Option<()> {
     for _ in 0..count {
-        if !read_one(file, names, plan) {
-            return false;
-        }
+        read_one(file, names, plan)?;
     }
-    true
+    Some(())
 }

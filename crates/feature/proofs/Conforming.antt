@@ -1,4 +1,5 @@
 -- A line that is read is within the sizes, and gives each property a value of a kind that it may have.
+use Rattle.std.specs.Prelude.{Option, Some, None}
 use mathlib.Core.Path.{◌≡◌, refl, sym, ◌∙◌, ap, subst}
 use mathlib.Core.Bool.{Bool, true, false, cond}
 use mathlib.Core.List.{List, [], ◌∷◌}
@@ -8,6 +9,7 @@ use borrow.Author.Tests.{ltb-false, eqb-true}
 use lib.Dec.{T, eqb, ltb}
 use lib.ListN.{length, drop, length-drop}
 use Rattle.lexer.specs.Refusal.{refusal_at, Judged, refused, fine, on_fine}
+use Rattle.lexer.specs.declared.refusal.Reason.TheVariants as reason
 use Rattle.kind.specs.Set.{has}
 use Rattle.kind.specs.declared.set.Kinds.{Kinds}
 use Rattle.value.specs.Value.{kind_of}
@@ -16,8 +18,6 @@ use Rattle.text.specs.Parts.{fields, field}
 use Rattle.text.specs.Head.{is_feature}
 use Rattle.feature.specs.Field.{field_of, conformed}
 use Rattle.feature.specs.Feature.{Values, complete, broken, with, onward, values_from, feature_size, most_features, fields_entered, entered_of, all_conform, values_of, feature_of, AllOf}
-use Rattle.feature.specs.declared.field.Field.{Field}
-use Rattle.feature.specs.declared.field.Field.TheVariants as read
 
 -- ---- the fields
 
@@ -30,11 +30,11 @@ with_first : (s : Kinds) (ss : List Kinds) (v : Value) (vs : Values) → T (has 
 with_first s ss v (complete vs) t c = (t, c)
 with_first s ss v (broken vs p) t c = tt
 
-field-first : (at : ℕ) (s : Kinds) (ss : List Kinds) (f : Field) (rest : Unit {0} → Values) → Conform ss (rest tt) → Conform (s ∷ ss) (onward at (conformed s f) rest)
-field-first at s ss read.Unread rest c = tt
-field-first at s ss (read.Read v) rest c = go (has s (kind_of v)) (λ t. t)
+field-first : (at : ℕ) (s : Kinds) (ss : List Kinds) (f : Option Value) (rest : Unit {0} → Values) → Conform ss (rest tt) → Conform (s ∷ ss) (onward at (conformed s f) rest)
+field-first at s ss None rest c = tt
+field-first at s ss (Some v) rest c = go (has s (kind_of v)) (λ t. t)
   where
-    go : (b : Bool) → (T b → T (has s (kind_of v))) → Conform (s ∷ ss) (onward at (cond b (read.Read v) read.Unread) rest)
+    go : (b : Bool) → (T b → T (has s (kind_of v))) → Conform (s ∷ ss) (onward at (cond b (Some v) None) rest)
     go true h = with_first s ss v (rest tt) (h tt) c
     go false h = tt
 
@@ -51,7 +51,7 @@ IsRead (fine u) = Unit {0}
 
 module _ (sets : List Kinds) (number : ℕ) (text : List ℕ) where
   -- what holds of each way that a line can go holds of what it comes to
-  pub by-line : (P : Judged Values → Type 0) → P (refused (refusal_at 1 feature_size)) → P (refused (refusal_at 1 most_features)) → P (refused (refusal_at 9 0)) → P (refused (refusal_at 9 (length text))) →
+  pub by-line : (P : Judged Values → Type 0) → P (refused (refusal_at reason.Size feature_size)) → P (refused (refusal_at reason.Size most_features)) → P (refused (refusal_at reason.Feature 0)) → P (refused (refusal_at reason.Feature (length text))) →
       (length text ≤ feature_size → number ≤ most_features → length (fields text) ≡ length sets + 1 → P (fine (values_from (length (field text 0) + 1) sets (drop 1 (fields text))))) →
       P (entered_of sets number text)
   unfolding entered_of fields_entered
@@ -59,11 +59,11 @@ module _ (sets : List Kinds) (number : ℕ) (text : List ℕ) where
       go (ltb feature_size (length text)) refl (ltb most_features number) refl (is_feature text) (eqb (length (fields text)) (length sets + 1)) refl
     where
       go : (b : Bool) → ltb feature_size (length text) ≡ b → (c : Bool) → ltb most_features number ≡ c → (d e : Bool) → eqb (length (fields text)) (length sets + 1) ≡ e →
-          P (cond b (refused (refusal_at 1 feature_size))
-          (cond c (refused (refusal_at 1 most_features))
+          P (cond b (refused (refusal_at reason.Size feature_size))
+          (cond c (refused (refusal_at reason.Size most_features))
           (elim d [
-            | false ↦ refused (refusal_at 9 0)
-            | true ↦ elim e [ false ↦ refused (refusal_at 9 (length text)) | true ↦ fine (values_from (length (field text 0) + 1) sets (drop 1 (fields text))) ]
+            | false ↦ refused (refusal_at reason.Feature 0)
+            | true ↦ elim e [ false ↦ refused (refusal_at reason.Feature (length text)) | true ↦ fine (values_from (length (field text 0) + 1) sets (drop 1 (fields text))) ]
           ])))
       go true p c q d e r = size
       go false p true q d e r = many

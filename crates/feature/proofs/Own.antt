@@ -1,4 +1,5 @@
 -- The strings of a feature lie in its own line.
+use Rattle.std.specs.Prelude.{Option, Some, None}
 use mathlib.Core.Path.{◌≡◌, refl, subst}
 use mathlib.Core.Bool.{Bool, true, false, cond}
 use mathlib.Core.List.{List, [], ◌∷◌}
@@ -15,8 +16,6 @@ use Rattle.value.specs.declared.value.Value.{Value}
 use Rattle.text.specs.Parts.{fields, field, parted}
 use Rattle.feature.specs.Field.{Numbers, wrong, all, made, numbers_in, numbers_of, longest_string, string_of, filled_of, field_of, conformed}
 use Rattle.feature.specs.Feature.{Values, complete, broken, with, onward, values_from, entered_of}
-use Rattle.feature.specs.declared.field.Field.{Field}
-use Rattle.feature.specs.declared.field.Field.TheVariants as read
 use Rattle.feature.proofs.Conforming.{by-line}
 
 abbrev pub Own : Value → Type 0
@@ -28,9 +27,9 @@ AllOwn (v ∷ vs) = Own v × AllOwn vs
 
 -- ---- a field
 
-abbrev OwnField : Field → Type 0
-OwnField read.Unread = Unit {0}
-OwnField (read.Read v) = Own v
+abbrev OwnField : Option Value → Type 0
+OwnField None = Unit {0}
+OwnField (Some v) = Own v
 
 made-own : (ns : Numbers) → OwnField (made ns)
 made-own wrong = tt
@@ -66,11 +65,11 @@ with-own : (v : Value) (vs : Values) → Own v → OwnValues vs → OwnValues (w
 with-own v (complete vs) o os = (o, os)
 with-own v (broken vs p) o os = (o, os)
 
-onward-own : (at : ℕ) (s : Kinds) (f : Field) (rest : Unit {0} → Values) → OwnField f → OwnValues (rest tt) → OwnValues (onward at (conformed s f) rest)
-onward-own at s read.Unread rest o os = tt
-onward-own at s (read.Read v) rest o os = go (has s (kind_of v))
+onward-own : (at : ℕ) (s : Kinds) (f : Option Value) (rest : Unit {0} → Values) → OwnField f → OwnValues (rest tt) → OwnValues (onward at (conformed s f) rest)
+onward-own at s None rest o os = tt
+onward-own at s (Some v) rest o os = go (has s (kind_of v))
   where
-    go : (b : Bool) → OwnValues (onward at (cond b (read.Read v) read.Unread) rest)
+    go : (b : Bool) → OwnValues (onward at (cond b (Some v) None) rest)
     go true = with-own v (rest tt) o os
     go false = tt
 

@@ -1,4 +1,5 @@
 -- Every choice of samples has a line that is read as these values.
+use Rattle.std.specs.Prelude.{Some}
 use mathlib.Core.Path.{◌≡◌, refl, ◌∙◌, ap}
 use mathlib.Core.Bool.{Bool, true, false, not}
 use mathlib.Core.List.{List, [], ◌∷◌, ◌++◌, map, append-nil}
@@ -26,7 +27,6 @@ use Rattle.text.proofs.Law.Parts.{parted-joined, parted-alone}
 use Rattle.feature.specs.Field.{numeral_of, numbers_of, longest_string, filled_of, field_of, conformed}
 use Rattle.feature.specs.Feature.{complete, with, values_from, feature_size, most_features, fields_entered, entered_of, values_of, feature_of}
 use Rattle.feature.specs.Sample.{absent, null, sample, Given, given, sample_text, sample_at, text_of, chosen_at, kinds_of, written, line_for, chosen_from, is_line_byte}
-use Rattle.feature.specs.declared.field.Field.TheVariants as read
 
 -- ---- a sample
 
@@ -40,7 +40,7 @@ sample-kind at kind.Vec2 = refl
 sample-kind at kind.Vec3 = refl
 sample-kind at kind.Vec4 = refl
 
-sample-says : (at : ℕ) (t : Kind) → field_of at (sample_text t) ≡ read.Read (sample_at at t)
+sample-says : (at : ℕ) (t : Kind) → field_of at (sample_text t) ≡ Some (sample_at at t)
 unfolding filled_of numbers_of numeral_of read_at digits whole_part fraction joined value_of ten_to of_int div round
 sample-says at kind.Undefined = refl
 sample-says at kind.Null = refl
@@ -67,7 +67,7 @@ sample-whole kind.Vec4 = ((tt, (tt, (tt, (tt, (tt, (tt, (tt, tt))))))), omega ar
 
 -- ---- a property with what it is given
 
-given-says : (at : ℕ) (g : Given) → field_of at (text_of g) ≡ read.Read (chosen_at at g)
+given-says : (at : ℕ) (g : Given) → field_of at (text_of g) ≡ Some (chosen_at at g)
 given-says at (given undeclared c ok) = refl
 given-says at (given (declared t a n) absent ok) = refl
 given-says at (given (declared t a n) null ok) = sample-says at kind.Null
@@ -81,7 +81,7 @@ given-kind at (given (declared t a true) null ok) = in_right (single_of t) _ kin
 given-kind at (given (declared t a false) null ok) = absurd ok
 given-kind at (given (declared t a n) sample ok) = rw (sample-kind at t) (in_left (single_of t) _ t (in-single t))
 
-given-conforms : (at : ℕ) (g : Given) → conformed (kinds_of g) (field_of at (text_of g)) ≡ read.Read (chosen_at at g)
+given-conforms : (at : ℕ) (g : Given) → conformed (kinds_of g) (field_of at (text_of g)) ≡ Some (chosen_at at g)
 given-conforms at g = rw (given-says at g, is_true (has (kinds_of g) (kind_of (chosen_at at g))) (given-kind at g))
 
 given-whole : (g : Given) → NoTab (text_of g) × (length (text_of g) ≤ 7)

@@ -1,6 +1,6 @@
 -- A feature's line: page 01, "What the painter reads" ("`feat` and one field for each property, in `prop` order."), "Sizes", and the
 -- numbers 1 and 9 of "Refusal numbers", in that page's order: "then the strip: its size, the number of strips, 9".
-use Rattle.std.specs.Prelude.{true, false, cond, List, [], ◌∷◌, ℕ, zero, suc, ◌+◌, T, eqb, ltb, Float, length, drop}
+use Rattle.std.specs.Prelude.{true, false, cond, List, [], ◌∷◌, ℕ, zero, suc, ◌+◌, T, eqb, ltb, length, drop, Option, Some, None, Result, Ok, Err}
 use Rattle.lexer.specs.Refusal.{refusal_at, Judged, refused, fine, on_fine}
 use Rattle.kind.specs.Set.{has}
 use Rattle.kind.specs.declared.set.Kinds.{Kinds}
@@ -8,14 +8,12 @@ use Rattle.value.specs.Value.{kind_of}
 use Rattle.value.specs.declared.value.Value.{Value}
 use Rattle.plan.specs.Layout.{property_count, number_at}
 use Rattle.checker.specs.Property.{set_at}
-use Rattle.evaluator.specs.Values.{stored_spans, stored_floats}
+use Rattle.evaluator.specs.Values.{stored}
 use Rattle.text.specs.Parts.{fields, field}
 use Rattle.text.specs.Head.{is_feature}
 use Rattle.feature.specs.Field.{field_of, conformed}
-use Rattle.feature.specs.declared.field.Field.{Field}
-use Rattle.feature.specs.declared.field.Field.TheVariants as read
-use Rattle.feature.specs.declared.feature.Feature.{Feature}
-use Rattle.feature.specs.declared.feature.Feature.TheVariants.{Refused, Read}
+use Rattle.lexer.specs.declared.refusal.Refusal.{Refusal}
+use Rattle.lexer.specs.declared.refusal.Reason.TheVariants as reason
 
 -- ---- the fields in turn
 
@@ -29,9 +27,9 @@ with v (complete vs) = complete (v ∷ vs)
 with v (broken vs p) = broken (v ∷ vs) p
 
 -- a field at a place, and those after it
-abbrev pub onward : ℕ → Field → (Unit {0} → Values) → Values
-onward at read.Unread rest = broken [] at
-onward at (read.Read v) rest = with v (rest tt)
+abbrev pub onward : ℕ → Option Value → (Unit {0} → Values) → Values
+onward at None rest = broken [] at
+onward at (Some v) rest = with v (rest tt)
 
 -- Each field has the set of its property. The first begins at a place, and each other behind the one before it and a tab.
 abbrev pub values_from : ℕ → List Kinds → List (List ℕ) → Values
@@ -53,7 +51,7 @@ most_features = 999999
 unfoldable pub fields_entered : List Kinds → List ℕ → Judged Values
 fields_entered sets text =
     elim (eqb (length (fields text)) (length sets + 1)) [
-      | false ↦ refused (refusal_at 9 (length text))
+      | false ↦ refused (refusal_at reason.Feature (length text))
       | true ↦ fine (values_from (length (field text 0) + 1) sets (drop 1 (fields text)))
     ]
 
@@ -61,16 +59,16 @@ fields_entered sets text =
 unfoldable pub entered_of : List Kinds → ℕ → List ℕ → Judged Values
 unfolding fields_entered
 entered_of sets number text =
-    cond (ltb feature_size (length text)) (refused (refusal_at 1 feature_size))
-    (cond (ltb most_features number) (refused (refusal_at 1 most_features))
-    (elim (is_feature text) [ false ↦ refused (refusal_at 9 0) | true ↦ fields_entered sets text ]))
+    cond (ltb feature_size (length text)) (refused (refusal_at reason.Size feature_size))
+    (cond (ltb most_features number) (refused (refusal_at reason.Size most_features))
+    (elim (is_feature text) [ false ↦ refused (refusal_at reason.Feature 0) | true ↦ fields_entered sets text ]))
 
 -- ---- what the call answers, and what it stores
 
 -- "else first wrong field"
 abbrev pub all_conform : Values → Judged (Unit {0})
 all_conform (complete vs) = fine tt
-all_conform (broken vs p) = refused (refusal_at 9 p)
+all_conform (broken vs p) = refused (refusal_at reason.Feature p)
 
 abbrev pub values_of : Judged Values → List Value
 values_of (refused r) = []
@@ -81,24 +79,18 @@ abbrev pub feature_of : List Kinds → ℕ → List ℕ → Judged (Unit {0})
 feature_of sets number text = on_fine (entered_of sets number text) all_conform
 
 -- what the answer of `read` says
-abbrev pub answer_of : Feature → Judged (Unit {0})
-answer_of (Refused r) = refused r
-answer_of Read = fine tt
+abbrev pub answer_of : Result (Unit {0}) Refusal → Judged (Unit {0})
+answer_of (Err r) = refused r
+answer_of (Ok tt) = fine tt
 
 -- values stored one after another, from a number on
-abbrev pub spans_with : ℕ → List Value → List ℕ → List ℕ
-spans_with n [] spans = spans
-spans_with n (v ∷ vs) spans = spans_with (suc n) vs (stored_spans spans n v)
+abbrev pub values_with : ℕ → List Value → List Value → List Value
+values_with n [] values = values
+values_with n (v ∷ vs) values = values_with (suc n) vs (stored values n v)
 
-abbrev pub floats_with : ℕ → List Value → List Float → List Float
-floats_with n [] floats = floats
-floats_with n (v ∷ vs) floats = floats_with (suc n) vs (stored_floats floats n v)
-
-abbrev pub spans_after : List Kinds → ℕ → List ℕ → List ℕ → List ℕ
-spans_after sets number text spans = spans_with 0 (values_of (entered_of sets number text)) spans
-
-abbrev pub floats_after : List Kinds → ℕ → List ℕ → List Float → List Float
-floats_after sets number text floats = floats_with 0 (values_of (entered_of sets number text)) floats
+-- the values of names behind a line, by those before it
+abbrev pub values_after : List Kinds → ℕ → List ℕ → List Value → List Value
+values_after sets number text values = values_with 0 (values_of (entered_of sets number text)) values
 
 -- the sets of so many properties from a number on, in a plan; and of all that it has
 abbrev pub sets_from : List ℕ → ℕ → ℕ → List Kinds

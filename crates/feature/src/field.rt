@@ -5,69 +5,52 @@ ghost use Rattle.feature.specs.Field.{string_of, field_of, conformed};
 
 use crate::numeral::numbers;
 use kind::set::Kinds;
-use lexer::bytes::same_part;
-use value::value::{Span, Value, kind_of};
-
-#[derive(Clone, Copy)]
-pub(crate) enum Field {
-    Unread,
-    Read(Value),
-}
+use value::value::{Span, Value};
 
 const LONGEST_STRING: usize = 255;
 
 // A string, from its `=` up to its end.
-fn string(start: usize, end: usize) -> Field
+fn string(start: usize, end: usize) -> Option<Value>
     requires { start < end }
     ensures { result ≡ string_of start end }
 {
     let first = start + 1;
     if end - first <= LONGEST_STRING {
-        Field::Read(Value::String(Span {
+        Some(Value::String(Span {
             literal: false,
             start: first,
             end,
         }))
     } else {
-        Field::Unread
+        None
     }
 }
 
-// The field of a line that lies from a place up to an end.
-pub(crate) fn read(line: &[u8], start: usize, end: usize) -> Field
+// The field of a line that lies from a place up to an end. The words are compared in turn, since a match
+// on byte strings splits the proof at each of their bytes.
+pub(crate) fn read(line: &[u8], start: usize, end: usize) -> Option<Value>
     requires { (start ≤ end) × (end ≤ length line.now) }
     ensures { result ≡ field_of start (slice start end line.now) }
 {
-    if start == end {
-        return Field::Read(Value::Undefined);
+    let text = &line[start..end];
+    if text.is_empty() {
+        Some(Value::Undefined)
+    } else if text == b"null".as_slice() {
+        Some(Value::Null)
+    } else if text == b"true".as_slice() {
+        Some(Value::Boolean(true))
+    } else if text == b"false".as_slice() {
+        Some(Value::Boolean(false))
+    } else if text.starts_with(b"=") {
+        string(start, end)
+    } else {
+        numbers(text)
     }
-    if same_part(line, start, end, b"null", 0, 4) {
-        return Field::Read(Value::Null);
-    }
-    if same_part(line, start, end, b"true", 0, 4) {
-        return Field::Read(Value::Boolean(true));
-    }
-    if same_part(line, start, end, b"false", 0, 5) {
-        return Field::Read(Value::Boolean(false));
-    }
-    if line[start] == b'=' {
-        return string(start, end);
-    }
-    numbers(&line[start..end])
 }
 
 // What is read, if it is of a kind that the property may have.
-pub(crate) fn conforming(set: Kinds, field: Field) -> Field
+pub(crate) fn conforming(set: Kinds, field: Option<Value>) -> Option<Value>
     ensures { result ≡ conformed set field }
 {
-    match field {
-        Field::Unread => Field::Unread,
-        Field::Read(value) => {
-            if set.has(kind_of(value)) {
-                Field::Read(value)
-            } else {
-                Field::Unread
-            }
-        }
-    }
+    field.filter(|value| set.has(value.kind()))
 }

@@ -1,28 +1,21 @@
 // Refusals as the files have them.
-use cases::line;
-use feature::feature::Feature;
-use reports::report;
-use style::check::Checked;
+use lexer::refusal::Refusal;
+use reports::case::Case;
+use style::check::LineRefusal;
 
 // The number is 0 for none.
-#[derive(Clone, Copy)]
+#[derive(Clone, Copy, Default, PartialEq, Eq, Drop)]
 pub(crate) struct Answer {
     pub number: u64,
     pub line: u64,
     pub place: u64,
 }
 
-const NONE: Answer = Answer {
-    number: 0,
-    line: 0,
-    place: 0,
-};
-
-pub(crate) fn of_head(checked: Checked) -> Answer {
+pub(crate) fn of_head(checked: Result<(), LineRefusal>) -> Answer {
     match checked {
-        Checked::Accepted => NONE,
-        Checked::Refused(r) => Answer {
-            number: r.refusal.number as u64,
+        Ok(()) => Answer::default(),
+        Err(r) => Answer {
+            number: u64::from(u8::from(r.refusal.reason)),
             line: r.line as u64,
             place: r.refusal.place as u64,
         },
@@ -30,55 +23,33 @@ pub(crate) fn of_head(checked: Checked) -> Answer {
 }
 
 // A feature's line is the number that it was given, so it is no part of the answer.
-pub(crate) fn of_feature(feature: Feature) -> Answer {
-    match feature {
-        Feature::Read => NONE,
-        Feature::Refused(r) => Answer {
-            number: r.number as u64,
+pub(crate) fn of_feature(read: Result<(), Refusal>) -> Answer {
+    match read {
+        Ok(()) => Answer::default(),
+        Err(r) => Answer {
+            number: u64::from(u8::from(r.reason)),
             line: 0,
             place: r.place as u64,
         },
     }
 }
 
-fn print(rt: &impl Print, a: Answer) {
-    report::text(rt, b"got");
-    report::hex(rt, b" ", a.number, 1);
-    report::hex(rt, b" ", a.line, 4);
-    report::hex(rt, b" ", a.place, 5);
-    report::text(rt, b"\n");
-}
-
-pub(crate) fn head_agrees(
-    rt: &impl Print,
-    name: &[u8],
-    line: &[u8],
-    head: &[u8],
-    a: Answer,
+// Whether the answer to a text is the wanted one.
+pub(crate) fn agrees(
+    case: &Case<'_, impl Print>,
+    text: &[u8],
+    wanted: Answer,
+    got: Answer,
 ) -> bool {
-    let same = (line::number(line, 10, 11) == a.number)
-        & (line::number(line, 12, 16) == a.line)
-        & (line::number(line, 17, 21) == a.place);
-    if same {
+    if got == wanted {
         return true;
     }
-    report::text_difference(rt, name, line, head);
-    print(rt, a);
-    false
-}
-
-pub(crate) fn feature_agrees(
-    rt: &impl Print,
-    name: &[u8],
-    line: &[u8],
-    feature: &[u8],
-    a: Answer,
-) -> bool {
-    let same = (line::number(line, 27, 28) == a.number) & (line::number(line, 29, 34) == a.place);
-    if same {
-        return true;
-    }
-    report::text_difference(rt, name, line, feature);
-    print(rt, a);
+    case.text_difference(text);
+    let Answer {
+        number,
+        line,
+        place,
+    } = got;
+    let _ = println!(case.rt; "got {number:x} {line:04x} {place:05x}");
     false
 }

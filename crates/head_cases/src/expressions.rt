@@ -2,10 +2,10 @@
 // root and the length of its tree, and then the tree.
 use crate::rooms;
 use cases::line;
-use lexer::bytes::has_word;
 use plan::layout::{EXPRESSIONS, Plan, ROW, ROWS};
 use plan::numbers::number_at;
 use printed::shown;
+use reports::case::Case;
 use reports::{read, report};
 use std::io::Read;
 use syntax::judge::MOST_HEIGHT;
@@ -15,178 +15,115 @@ const LINE: usize = 22;
 // More than any tree of the files has bytes, so that a full page is none.
 const PAGE: usize = 8400;
 
-// ---- where it lies
+// Where it lies: its places in the head, and its root.
+fn places(found: &[u8]) -> [u64; 3] {
+    [
+        line::number(found, 3, 7),
+        line::number(found, 8, 12),
+        line::number(found, 13, 16),
+    ]
+}
 
 fn row_agrees(found: &[u8], plan: &Plan) -> bool {
     let row = line::number(found, 0, 2) as usize;
     if row < EXPRESSIONS {
         let p = ROWS + ROW * row;
-        return (line::number(found, 3, 7) == number_at(plan, p) as u64)
-            & (line::number(found, 8, 12) == number_at(plan, p + 1) as u64)
-            & (line::number(found, 13, 16) == number_at(plan, p + 2) as u64);
+        let got = [
+            number_at(plan, p) as u64,
+            number_at(plan, p + 1) as u64,
+            number_at(plan, p + 2) as u64,
+        ];
+        return got == places(found);
     }
     false
 }
 
-fn place_agrees(
-    rt: &impl Print,
-    name: &[u8],
-    line: &[u8],
-    head: &[u8],
-    found: &[u8],
-    plan: &Plan,
-) -> bool {
+fn place_agrees(case: &Case<'_, impl Print>, head: &[u8], found: &[u8], plan: &Plan) -> bool {
     if row_agrees(found, plan) {
         return true;
     }
-    report::text_difference(rt, name, line, head);
-    report::text(rt, b"another expression than ");
-    report::text(rt, found);
+    case.text_difference(head);
+    report::text(case.rt, b"another expression than ");
+    report::text(case.rt, found);
     false
 }
 
-// ---- its tree
-
-fn page_agrees(
-    rt: &impl Print,
-    name: &[u8],
-    line: &[u8],
-    head: &[u8],
-    tree: &[u8],
-    shown: &[u8],
-) -> bool {
-    if (shown.len() == tree.len()) & has_word(shown, 0, tree) {
+fn page_agrees(case: &Case<'_, impl Print>, head: &[u8], tree: &[u8], shown: &[u8]) -> bool {
+    if shown == tree {
         return true;
     }
-    report::text_difference(rt, name, line, head);
-    report::text(rt, b"wanted ");
-    report::text(rt, tree);
-    report::text(rt, b"\ngot ");
-    report::text(rt, shown);
-    report::text(rt, b"\n");
+    case.text_difference(head);
+    for part in [b"wanted ".as_slice(), tree, b"\ngot ", shown, b"\n"] {
+        report::text(case.rt, part);
+    }
     false
 }
 
-// The text of an expression and its slots.
-fn shown_agrees(
-    rt: &impl Print,
-    name: &[u8],
-    line: &[u8],
-    head: &[u8],
-    text: &[u8],
-    slots: &[u16],
-    root: usize,
-    tree: &[u8],
-) -> bool {
-    let mut page = [0u8; PAGE];
-    let end = shown::tree(&mut page, 0, text, true, slots, root, MOST_HEIGHT);
-    if end < PAGE {
-        return page_agrees(rt, name, line, head, tree, &page[..end]);
-    }
-    report::text_difference(rt, name, line, head);
-    report::text(rt, b"the tree is too long\n");
-    false
-}
-
-// An expression, by its places in the head.
-fn text_agrees(
-    rt: &impl Print,
-    name: &[u8],
-    line: &[u8],
-    head: &[u8],
-    slots: &[u16],
-    found: &[u8],
-    tree: &[u8],
-) -> bool {
-    let from = line::number(found, 3, 7) as usize;
-    let to = line::number(found, 8, 12) as usize;
-    let root = line::number(found, 13, 16) as usize;
-    if from <= to {
-        if to <= head.len() {
-            if to <= slots.len() {
-                let text = &head[from..to];
-                return shown_agrees(rt, name, line, head, text, &slots[from..to], root, tree);
-            }
-        }
-    }
-    report::malformed(rt, name, found)
-}
-
-// ---- reading it
-
+// The tree of an expression by its places in the head; none if it does not lie there.
 fn tree_agrees(
-    rt: &impl Print,
-    file: &mut impl Read,
-    name: &[u8],
-    line: &[u8],
+    case: &Case<'_, impl Print>,
     head: &[u8],
     slots: &[u16],
     found: &[u8],
-    tree: &mut [u8],
-) -> bool {
-    if read::text(file, tree) {
-        return text_agrees(rt, name, line, head, slots, found, tree);
+    tree: &[u8],
+) -> Option<bool> {
+    let [from, to, root] = places(found);
+    let (from, to) = (from as usize, to as usize);
+    let text = head.get(from..to)?;
+    let slots = slots.get(from..to)?;
+    let mut page = [0u8; PAGE];
+    let end = shown::tree(&mut page, 0, text, true, slots, root as usize, MOST_HEIGHT);
+    if end < PAGE {
+        return Some(page_agrees(case, head, tree, &page[..end]));
     }
-    report::malformed(rt, name, found)
+    case.text_difference(head);
+    let _ = println!(case.rt; "the tree is too long");
+    Some(false)
 }
 
-// Lends the room for the tree.
-fn with_tree(
-    rt: &impl Print,
+// The tree stands behind the line.
+fn shape_agrees(
+    case: &Case<'_, impl Print>,
     file: &mut impl Read,
-    name: &[u8],
-    line: &[u8],
     head: &[u8],
     slots: &[u16],
     found: &[u8],
-) -> bool {
-    let length = line::number(found, 17, 21) as usize;
-    if line::fits(found, b"hh hhhh hhhh hhh hhhh\n") {
-        if length <= rooms::TEXT {
-            let mut tree = [0u8; rooms::TEXT];
-            return tree_agrees(
-                rt,
-                file,
-                name,
-                line,
-                head,
-                slots,
-                found,
-                &mut tree[..length],
-            );
-        }
+) -> Option<bool> {
+    if !line::fits(found, b"hh hhhh hhhh hhh hhhh\n") {
+        return None;
     }
-    report::malformed(rt, name, found)
+    let mut room = [0u8; rooms::TEXT];
+    let tree = read::text(file, &mut room, line::number(found, 17, 21) as usize)?;
+    tree_agrees(case, head, slots, found, tree)
 }
 
 fn one_agrees(
-    rt: &impl Print,
+    case: &Case<'_, impl Print>,
     file: &mut impl Read,
-    name: &[u8],
-    line: &[u8],
     head: &[u8],
     slots: &[u16],
     plan: &Plan,
 ) -> bool {
-    let mut found = [0u8; LINE];
-    let n = read::some(file, &mut found);
-    place_agrees(rt, name, line, head, &found[..n], plan)
-        & with_tree(rt, file, name, line, head, slots, &found[..n])
+    let mut room = [0u8; LINE];
+    let line = read::line(file, &mut room).unwrap_or(b"");
+    let place = place_agrees(case, head, line, plan);
+    match shape_agrees(case, file, head, slots, line) {
+        Some(shape) => place & shape,
+        None => Case { line, ..*case }.malformed(),
+    }
 }
 
 // All of them are compared, whatever comes of the first.
 pub(crate) fn agree(
-    rt: &impl Print,
+    case: &Case<'_, impl Print>,
     file: &mut impl Read,
-    name: &[u8],
-    line: &[u8],
     head: &[u8],
     slots: &[u16],
     plan: &Plan,
 ) -> bool {
     let mut same = true;
-    for _ in 0..line::number(line, 35, 37) {
-        same = one_agrees(rt, file, name, line, head, slots, plan) & same;
+    for _ in 0..line::number(case.line, 35, 37) {
+        same = one_agrees(case, file, head, slots, plan) & same;
     }
     same
 }

@@ -1,112 +1,64 @@
 // A case of a feature: a line, the head whose properties it has, its text, and the parts of its
 // values.
+use crate::answer::Answer;
 use crate::rooms::{SLOTS, UNUSED};
 use crate::{answer, rooms, values};
-use cases::tally::Outcome;
-use cases::{line, tally};
-use plan::layout::{FLOATS, PLAN, Plan, SPANS};
-use reports::{read, report};
+use cases::line;
+use plan::layout::{PLAN, Plan, UNDECLARED};
+use reports::case::Case;
+use reports::{case, read};
 use std::io::Read;
 use style::head::compile;
+use value::value::Value;
 
 const LINE: usize = 38;
 
-// The kind of a Number, so that a value that is not stored is one.
-const OLD_KIND: usize = 3;
+// What a value is that is not stored.
+const OLD: Value = Value::Number(0.625);
 
-const OLD_FLOAT: f64 = 0.625;
+fn wanted(line: &[u8]) -> Answer {
+    Answer {
+        number: line::number(line, 27, 28),
+        line: 0,
+        place: line::number(line, 29, 34),
+    }
+}
 
 // A refused feature has no values to compare.
 fn read_agrees(
-    rt: &impl Print,
+    case: &Case<'_, impl Print>,
     file: &mut impl Read,
-    name: &[u8],
-    line: &[u8],
     text: &[u8],
     plan: &Plan,
 ) -> bool {
-    let mut spans = [OLD_KIND; SPANS];
-    let mut floats = [OLD_FLOAT; FLOATS];
-    let number = line::number(line, 5, 21) as usize;
-    let a = answer::of_feature(feature::feature::read(plan, number, text, &mut spans, &mut floats));
-    answer::feature_agrees(rt, name, line, text, a)
-        & values::agree(rt, file, name, line, text, &spans, &floats)
+    let mut values = [OLD; UNDECLARED];
+    let number = line::number(case.line, 5, 21) as usize;
+    let read = feature::feature::read(plan, number, text, &mut values);
+    answer::agrees(case, text, wanted(case.line), answer::of_feature(read))
+        & values::agree(case, file, text, &values)
 }
 
 // A head that is refused is no case of this program. What belongs to the feature is read all the same.
-fn schema_agrees(
-    rt: &impl Print,
-    file: &mut impl Read,
-    name: &[u8],
-    line: &[u8],
-    head: &[u8],
-    text: &[u8],
-) -> bool {
+fn agrees(case: &Case<'_, impl Print>, file: &mut impl Read) -> Option<bool> {
+    if !line::fits(case.line, b"hhhh hhhhhhhhhhhhhhhh hhhh h hhhhh hh\n") {
+        return None;
+    }
+    let (mut head, mut text) = ([0u8; rooms::TEXT], [0u8; rooms::TEXT]);
+    let head = read::text(file, &mut head, line::number(case.line, 0, 4) as usize)?;
+    let text = read::text(file, &mut text, line::number(case.line, 22, 26) as usize)?;
     let mut plan = [0u16; PLAN];
     let mut slots = [UNUSED; SLOTS];
-    let a = answer::of_head(compile(head, &mut plan, &mut slots));
-    let same = read_agrees(rt, file, name, line, text, &plan);
-    if a.number == 0 {
-        return same;
-    }
-    report::malformed(rt, name, line)
+    let compiled = compile(head, &mut plan, &mut slots);
+    let same = read_agrees(case, file, text, &plan);
+    if compiled.is_ok() { Some(same) } else { None }
 }
 
-fn text_agrees(
-    rt: &impl Print,
-    file: &mut impl Read,
-    name: &[u8],
-    line: &[u8],
-    head: &[u8],
-    text: &mut [u8],
-) -> bool {
-    if read::text(file, text) {
-        return schema_agrees(rt, file, name, line, head, text);
-    }
-    report::malformed(rt, name, line)
-}
-
-// Lends the room for the feature's text.
-fn with_text(rt: &impl Print, file: &mut impl Read, name: &[u8], line: &[u8], head: &[u8]) -> bool {
-    let length = line::number(line, 22, 26) as usize;
-    if length <= rooms::TEXT {
-        let mut text = [0u8; rooms::TEXT];
-        return text_agrees(rt, file, name, line, head, &mut text[..length]);
-    }
-    report::malformed(rt, name, line)
-}
-
-fn head_agrees(
-    rt: &impl Print,
-    file: &mut impl Read,
-    name: &[u8],
-    line: &[u8],
-    head: &mut [u8],
-) -> bool {
-    if read::text(file, head) {
-        return with_text(rt, file, name, line, head);
-    }
-    report::malformed(rt, name, line)
-}
-
-// A line that is malformed does not agree.
-fn agrees(rt: &impl Print, file: &mut impl Read, name: &[u8], line: &[u8]) -> bool {
-    let length = line::number(line, 0, 4) as usize;
-    if line::fits(line, b"hhhh hhhhhhhhhhhhhhhh hhhh h hhhhh hh\n") {
-        if length <= rooms::TEXT {
-            let mut head = [0u8; rooms::TEXT];
-            return head_agrees(rt, file, name, line, &mut head[..length]);
-        }
-    }
-    report::malformed(rt, name, line)
-}
-
-// Nothing more to read is the end.
-pub(crate) fn next(rt: &impl Print, file: &mut impl Read, name: &[u8]) -> Outcome {
-    let mut line = [0u8; LINE];
-    let n = read::some(file, &mut line);
-    if n == 0 {
-        return Outcome::End;
-    }
-    tally::compared(agrees(rt, file, name, &line[..n]))
+pub(crate) fn next(rt: &impl Print, file: &mut impl Read, name: &str) -> Option<bool> {
+    case::next(
+        rt,
+        file,
+        name,
+        &mut [0u8; LINE],
+        |case, file| agrees(case, file),
+    )
 }

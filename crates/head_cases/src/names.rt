@@ -3,65 +3,45 @@
 use cases::line;
 use plan::layout::{Plan, SETS, UNDECLARED};
 use plan::numbers::number_at;
+use reports::case::Case;
 use reports::{read, report};
 use std::io::Read;
 
 const LINE: usize = 16;
 
-fn set_agrees(line: &[u8], plan: &Plan) -> bool {
-    let number = line::number(line, 0, 2) as usize;
+fn set_agrees(found: &[u8], plan: &Plan) -> bool {
+    let number = line::number(found, 0, 2) as usize;
     if number < UNDECLARED {
-        return line::fits(line, b"hh hhhh hhhh hh\n")
-            & (line::number(line, 13, 15) == number_at(plan, SETS + number) as u64);
+        return line::fits(found, b"hh hhhh hhhh hh\n")
+            & (line::number(found, 13, 15) == number_at(plan, SETS + number) as u64);
     }
     false
 }
 
-fn one_agrees(
-    rt: &impl Print,
-    file: &mut impl Read,
-    name: &[u8],
-    line: &[u8],
-    head: &[u8],
-    plan: &Plan,
-) -> bool {
-    let mut found = [0u8; LINE];
-    let n = read::some(file, &mut found);
-    if set_agrees(&found[..n], plan) {
+fn one_agrees(case: &Case<'_, impl Print>, file: &mut impl Read, head: &[u8], plan: &Plan) -> bool {
+    let mut room = [0u8; LINE];
+    let found = read::line(file, &mut room).unwrap_or(b"");
+    if set_agrees(found, plan) {
         return true;
     }
-    report::text_difference(rt, name, line, head);
-    report::text(rt, b"another name than ");
-    report::text(rt, &found[..n]);
+    case.text_difference(head);
+    report::text(case.rt, b"another name than ");
+    report::text(case.rt, found);
     false
 }
 
-// So many of them. All are compared, whatever comes of the first.
-fn some_agree(
-    rt: &impl Print,
+// Those of properties, and then those of defines. All are compared, whatever comes of the first.
+pub(crate) fn agree(
+    case: &Case<'_, impl Print>,
     file: &mut impl Read,
-    name: &[u8],
-    line: &[u8],
     head: &[u8],
     plan: &Plan,
-    count: u64,
 ) -> bool {
+    let properties = line::number(case.line, 22, 24);
+    let defines = line::number(case.line, 25, 27);
     let mut same = true;
-    for _ in 0..count {
-        same = one_agrees(rt, file, name, line, head, plan) & same;
+    for _ in 0..properties.saturating_add(defines) {
+        same = one_agrees(case, file, head, plan) & same;
     }
     same
-}
-
-// Those of properties, and then those of defines.
-pub(crate) fn agree(
-    rt: &impl Print,
-    file: &mut impl Read,
-    name: &[u8],
-    line: &[u8],
-    head: &[u8],
-    plan: &Plan,
-) -> bool {
-    some_agree(rt, file, name, line, head, plan, line::number(line, 22, 24))
-        & some_agree(rt, file, name, line, head, plan, line::number(line, 25, 27))
 }

@@ -1,4 +1,5 @@
 -- Where an operand is Undefined or Null, an operation faults, or it gives the same for all operands of that count.
+use Rattle.std.specs.Prelude.{Some, None}
 use mathlib.Core.Path.{◌≡◌, sym, ◌∙◌}
 use mathlib.Core.Bool.{Bool, true, false, not, ◌&&◌, ◌||◌}
 use mathlib.Core.List.{List, [], ◌∷◌}
@@ -13,7 +14,6 @@ use Rattle.kind.specs.Rule.{Signature, signatures, ruled_by, rule_of}
 use Rattle.kind.specs.Set.{some_of, every_of}
 use Rattle.kind.specs.declared.kind.Kind.{Kind}
 use Rattle.kind.specs.declared.kind.Kind.TheVariants.{Undefined, Null, Boolean}
-use Rattle.kind.specs.declared.kind.Ruled.TheVariants.{Fault, Gives}
 use Rattle.kind.specs.declared.operation.Operation.{Operation}
 use Rattle.kind.proofs.Law.Tests.{eq_ruled, by-test2}
 use Rattle.kind.proofs.Law.Choices.{or_elim}
@@ -36,13 +36,13 @@ two (k ∷ l ∷ []) = true
 two (k ∷ l ∷ m ∷ ks) = false
 
 abbrev pairs : List Signature → Bool
-pairs ss = every_of kinds (λ k. every_of kinds (λ l. eq_ruled (ruled_by ss (k ∷ l ∷ [])) (Gives Boolean)))
+pairs ss = every_of kinds (λ k. every_of kinds (λ l. eq_ruled (ruled_by ss (k ∷ l ∷ [])) (Some Boolean)))
 
-pair : (ss : List Signature) → T (pairs ss) → (k l : Kind) → ruled_by ss (k ∷ l ∷ []) ≡ Gives Boolean
-pair ss h = by-test2 (λ k l. ruled_by ss (k ∷ l ∷ [])) (λ k l. Gives Boolean) (is_true (pairs ss) h)
+pair : (ss : List Signature) → T (pairs ss) → (k l : Kind) → ruled_by ss (k ∷ l ∷ []) ≡ Some Boolean
+pair ss h = by-test2 (λ k l. ruled_by ss (k ∷ l ∷ [])) (λ k l. Some Boolean) (is_true (pairs ss) h)
 
 any-two : (ss : List Signature) (ks ls : List Kind) → length ks ≡ length ls → T (each two ss) → T (pairs ss) →
-    (ruled_by ss ls ≡ Fault) ⊎ (ruled_by ss ks ≡ ruled_by ss ls)
+    (ruled_by ss ls ≡ None) ⊎ (ruled_by ss ks ≡ ruled_by ss ls)
 any-two ss ks [] e t h = inl (none-takes two ss [] t (λ n. n))
 any-two ss ks (l ∷ []) e t h = inl (none-takes two ss (l ∷ []) t (λ n. n))
 any-two ss [] (l ∷ m ∷ []) e t h = absurd (omega (arith, e))
@@ -53,7 +53,7 @@ any-two ss ks (l ∷ m ∷ n ∷ ls) e t h = inl (none-takes two ss (l ∷ m ∷
 
 -- ---- the theorem
 
-pub lacking : (o : Operation) (ks ls : List Kind) → length ks ≡ length ls → T (lacks ls) → (rule_of o ls ≡ Fault) ⊎ (rule_of o ks ≡ rule_of o ls)
+pub lacking : (o : Operation) (ks ls : List Kind) → length ks ≡ length ls → T (lacks ls) → (rule_of o ls ≡ None) ⊎ (rule_of o ks ≡ rule_of o ls)
 unfolding rule_of
 lacking o ks ls e h =
     let ss = signatures o in

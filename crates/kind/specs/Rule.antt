@@ -1,12 +1,10 @@
 -- What every operator, function and pick takes and gives: page 01, "Kinds and meaning", and for the constructors 004's list. An operation
 -- is given by its signatures, as 004 lists them: the kinds of its operands, in order, and the kind of its result.
-use Rattle.std.specs.Prelude.{Bool, true, false, ◌&&◌, List, [], ◌∷◌, map, ◌++◌, ℕ, leb}
+use Rattle.std.specs.Prelude.{Bool, true, false, ◌&&◌, List, [], ◌∷◌, map, ◌++◌, ℕ, leb, Option, Some, None}
 use Rattle.kind.specs.Kind.{kinds, eq_kind, dimension_of}
 use Rattle.kind.specs.Operation.{index_of}
 use Rattle.kind.specs.declared.kind.Kind.{Kind}
 use Rattle.kind.specs.declared.kind.Kind.TheVariants.{Boolean, Number, String, Vec2, Vec3, Vec4}
-use Rattle.kind.specs.declared.kind.Ruled.{Ruled}
-use Rattle.kind.specs.declared.kind.Ruled.TheVariants.{Fault, Gives}
 use Rattle.kind.specs.declared.operation.Binary.{Binary}
 use Rattle.kind.specs.declared.operation.Binary.TheVariants.{Add, Subtract, Multiply, Divide, Remainder, Min, Max}
 use Rattle.kind.specs.declared.operation.Ternary.{Ternary}
@@ -148,10 +146,10 @@ same_kinds (k ∷ ks) [] = false
 same_kinds (k ∷ ks) (l ∷ ls) = same_kinds ks ls && eq_kind k l
 
 -- what the signature for these operands gives; "Any other operand, argument count or pick .. is a fault."
-abbrev pub ruled_by : List Signature → List Kind → Ruled
-ruled_by [] ks = Fault
-ruled_by ((ls ⇒ r) ∷ ss) ks = elim (same_kinds ls ks) [ true ↦ Gives r | false ↦ ruled_by ss ks ]
+abbrev pub ruled_by : List Signature → List Kind → Option Kind
+ruled_by [] ks = None
+ruled_by ((ls ⇒ r) ∷ ss) ks = elim (same_kinds ls ks) [ true ↦ Some r | false ↦ ruled_by ss ks ]
 
 -- The kind that an operation gives for operands of these kinds, any count of them, or a fault.
-unfoldable pub rule_of : Operation → List Kind → Ruled
+unfoldable pub rule_of : Operation → List Kind → Option Kind
 rule_of o ks = ruled_by (signatures o) ks

@@ -1,190 +1,72 @@
 // The set of kinds of a node, from the sets of its parts: what some choice of kinds, one from each
 // set, gives.
-ghost use Rattle.std.specs.Prelude.{◌≡◌, cond, ◌∷◌, ◌++◌};
-ghost use Rattle.kind.specs.Choice.{kinds_in, sets_in, with_of, node_kinds};
+ghost use Rattle.std.specs.Prelude.{◌≡◌, ◌+◌, ◌≤◌, ◌++◌, length, IfSome};
+ghost use Rattle.arrayvec.specs.ArrayVec.{array_vec_len};
+ghost use Rattle.kind.specs.Choice.{node_kinds, with_of};
+ghost use Rattle.kind.specs.Inner.{choices_of};
 ghost use Rattle.kind.specs.Rule.{rule_of};
-ghost use Rattle.kind.specs.Inner.{chosen_of, outcomes_of, outcome_of, joined, joined_eight, no_outcomes};
 
-use crate::kind::{Kind, Ruled};
+use crate::kind::Kind;
 use crate::operation::Operation;
 use crate::rule::rule;
 use crate::set::Kinds;
+use arrayvec::ArrayVec;
 
-// The kinds of an operation's operands. No operation takes more than four.
-#[derive(Clone, Copy)]
-pub enum Operands {
-    None,
-    One(Kind),
-    Two(Kind, Kind),
-    Three(Kind, Kind, Kind),
-    Four(Kind, Kind, Kind, Kind),
-    More,
-}
+// No operation takes more operands.
+const MOST_OPERANDS: usize = 4;
 
-// The sets of a node's parts. Of more than four it is known only whether one of them is empty.
-#[derive(Clone, Copy)]
-pub enum Parts {
-    None,
-    One(Kinds),
-    Two(Kinds, Kinds),
-    Three(Kinds, Kinds, Kinds),
-    Four(Kinds, Kinds, Kinds, Kinds),
-    More(bool),
-}
+// Of more parts than that only whether one is empty matters: the last one kept stands for all behind it.
+pub const MOST_PARTS: usize = 5;
 
-// What the checker gives a node.
-#[derive(Clone, Copy)]
-pub enum Checked {
-    Refused,
-    Accepted(Kinds),
-}
+// The sets of a node's parts.
+pub type Parts = ArrayVec<Kinds, MOST_PARTS>;
 
-// What choices come to: whether some faults, and the kinds that the others give.
-#[derive(Clone, Copy)]
-struct Outcomes {
-    fault: bool,
-    kinds: Kinds,
-}
-
-const NO_OUTCOMES: Outcomes = Outcomes {
-    fault: false,
-    kinds: Kinds::NONE,
-};
-
-// The parts with one more after them.
-pub fn with(parts: Parts, set: Kinds) -> Parts
-    ensures { result ≡ with_of parts set }
+// Adds one more part.
+pub fn add(parts: &mut Parts, set: Kinds)
+    ensures { parts.new.items ≡ with_of parts.old.items set }
 {
-    match parts {
-        Parts::None => Parts::One(set),
-        Parts::One(a) => Parts::Two(a, set),
-        Parts::Two(a, b) => Parts::Three(a, b, set),
-        Parts::Three(a, b, c) => Parts::Four(a, b, c, set),
-        Parts::Four(a, b, c, d) => {
-            let last = d.is_empty() | set.is_empty();
-            Parts::More(a.is_empty() | (b.is_empty() | (c.is_empty() | last)))
+    if !parts.is_full() {
+        parts.push(set);
+    } else if set.is_empty() {
+        parts[MOST_OPERANDS] = Kinds::NONE;
+    }
+}
+
+// What the choices from some parts give, operands before them being chosen.
+fn choices(
+    operation: Operation,
+    chosen: &mut ArrayVec<Kind, MOST_OPERANDS>,
+    parts: &[Kinds],
+) -> Option<Kinds>
+    requires { array_vec_len chosen.old + length parts.now ≤ 4 }
+    ensures given { result ≡ choices_of (λ ks. rule_of operation (chosen.old.items ++ ks)) parts.now }
+    ensures kept { IfSome result (λ s. chosen.new.items ≡ chosen.old.items) }
+{
+    let [set, rest @ ..] = parts else {
+        return rule(operation, chosen).map(Kinds::single);
+    };
+    let mut kinds = Kinds::NONE;
+    for kind in &Kind::ALL {
+        if set.has(*kind) {
+            chosen.push(*kind);
+            let given = choices(operation, chosen, rest)?;
+            chosen.pop();
+            kinds = kinds.union(given);
         }
-        Parts::More(empty) => Parts::More(empty | set.is_empty()),
     }
-}
-
-// The operands with one more after them.
-fn chosen(operands: Operands, kind: Kind) -> Operands
-    ensures { result ≡ chosen_of operands kind }
-{
-    match operands {
-        Operands::None => Operands::One(kind),
-        Operands::One(k) => Operands::Two(k, kind),
-        Operands::Two(k, l) => Operands::Three(k, l, kind),
-        Operands::Three(k, l, m) => Operands::Four(k, l, m, kind),
-        Operands::Four(_, _, _, _) => Operands::More,
-        Operands::More => Operands::More,
-    }
-}
-
-fn outcome(ruled: Ruled) -> Outcomes
-    ensures { result ≡ outcome_of ruled }
-{
-    match ruled {
-        Ruled::Fault => Outcomes {
-            fault: true,
-            kinds: Kinds::NONE,
-        },
-        Ruled::Gives(kind) => Outcomes {
-            fault: false,
-            kinds: Kinds::single(kind),
-        },
-    }
-}
-
-// What some of two come to.
-fn join(a: Outcomes, b: Outcomes) -> Outcomes
-    ensures { result ≡ joined a b }
-{
-    Outcomes {
-        fault: a.fault | b.fault,
-        kinds: a.kinds.union(b.kinds),
-    }
-}
-
-// What some of eight come to.
-fn join_eight(
-    a: Outcomes,
-    b: Outcomes,
-    c: Outcomes,
-    d: Outcomes,
-    e: Outcomes,
-    f: Outcomes,
-    g: Outcomes,
-    h: Outcomes,
-) -> Outcomes
-    ensures { result ≡ joined_eight a b c d e f g h }
-{
-    join(
-        a,
-        join(
-            b,
-            join(c, join(d, join(e, join(f, join(g, join(h, NO_OUTCOMES)))))),
-        ),
-    )
-}
-
-// What the choices from a first set and the rest come to, the operands before them being chosen.
-#[cycle(choose_over_sweep)]
-fn over(operation: Operation, operands: Operands, set: Kinds, rest: Parts) -> Outcomes
-    ensures { result ≡ outcomes_of (λ ks. rule_of operation (kinds_in operands ++ ks)) (set ∷ sets_in rest) }
-{
-    join_eight(
-        choose(set.undefined, operation, operands, Kind::Undefined, rest),
-        choose(set.null, operation, operands, Kind::Null, rest),
-        choose(set.boolean, operation, operands, Kind::Boolean, rest),
-        choose(set.number, operation, operands, Kind::Number, rest),
-        choose(set.string, operation, operands, Kind::String, rest),
-        choose(set.vec2, operation, operands, Kind::Vec2, rest),
-        choose(set.vec3, operation, operands, Kind::Vec3, rest),
-        choose(set.vec4, operation, operands, Kind::Vec4, rest),
-    )
-}
-
-// The same with one more operand chosen, if it may be.
-#[cycle(choose_over_sweep)]
-fn choose(may: bool, operation: Operation, operands: Operands, kind: Kind, rest: Parts) -> Outcomes
-    ensures { result ≡ cond may (outcomes_of (λ ks. rule_of operation (kinds_in operands ++ (kind ∷ ks))) (sets_in rest)) no_outcomes }
-{
-    if may {
-        sweep(operation, chosen(operands, kind), rest)
-    } else {
-        NO_OUTCOMES
-    }
-}
-
-// What the choices from all parts come to, the operands before them being chosen.
-#[cycle(choose_over_sweep)]
-fn sweep(operation: Operation, operands: Operands, parts: Parts) -> Outcomes
-    ensures { result ≡ outcomes_of (λ ks. rule_of operation (kinds_in operands ++ ks)) (sets_in parts) }
-{
-    match parts {
-        Parts::None => outcome(rule(operation, operands)),
-        Parts::One(a) => over(operation, operands, a, Parts::None),
-        Parts::Two(a, b) => over(operation, operands, a, Parts::One(b)),
-        Parts::Three(a, b, c) => over(operation, operands, a, Parts::Two(b, c)),
-        Parts::Four(a, b, c, d) => over(operation, operands, a, Parts::Three(b, c, d)),
-        Parts::More(empty) => Outcomes {
-            fault: !empty,
-            kinds: Kinds::NONE,
-        },
-    }
+    Some(kinds)
 }
 
 // The set of a node: refused exactly if some choice faults, and else the kinds that its choices give.
-pub fn node_kinds(operation: Operation, parts: Parts) -> Checked
-    ensures { result ≡ node_kinds operation (sets_in parts) }
+pub fn node_kinds(operation: Operation, parts: &[Kinds]) -> Option<Kinds>
+    ensures { result ≡ node_kinds operation parts.now }
 {
-    let outcomes = sweep(operation, Operands::None, parts);
-    let kinds = outcomes.kinds;
-    if outcomes.fault {
-        Checked::Refused
-    } else {
-        Checked::Accepted(kinds)
+    if parts.len() > MOST_OPERANDS {
+        // Every choice faults, and there is one unless some set is empty.
+        return parts
+            .iter()
+            .any(|set| set.is_empty())
+            .then_some(Kinds::NONE);
     }
+    choices(operation, &mut ArrayVec::new(), parts)
 }

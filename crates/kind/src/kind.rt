@@ -1,11 +1,11 @@
 // The eight kinds of values.
-ghost use Rattle.std.specs.Prelude.{◌≡◌, cond};
-ghost use Rattle.kind.specs.Kind.{dimension_of, eq_kind, number_of};
-ghost use Rattle.kind.specs.Inner.{numeric_of, gives_if};
+ghost use Rattle.std.specs.Prelude.{◌≡◌};
+ghost use Rattle.kind.specs.Kind.{dimension_of, number_of};
 
-// Page 01's term for the dynamic type of a value.
-#[derive(Clone, Copy)]
+// Page 01's term for the dynamic type of a value. The order is that of its list.
+#[derive(Clone, Copy, Debug, Default, PartialEq, Eq, PartialOrd, Ord, Hash)]
 pub enum Kind {
+    #[default]
     Undefined,
     Null,
     Boolean,
@@ -16,28 +16,24 @@ pub enum Kind {
     Vec4,
 }
 
-// What an operation gives for the kinds of its operands.
-#[derive(Clone, Copy)]
-pub enum Ruled {
-    // It does not take them.
-    Fault,
-    Gives(Kind),
+impl Kind {
+    pub const ALL: [Kind; 8] = [
+        Kind::Undefined,
+        Kind::Null,
+        Kind::Boolean,
+        Kind::Number,
+        Kind::String,
+        Kind::Vec2,
+        Kind::Vec3,
+        Kind::Vec4,
+    ];
 }
 
 // The number of a kind is its place in page 01's list.
 pub fn number(kind: Kind) -> u8
     ensures { result ≡ number_of kind }
 {
-    match kind {
-        Kind::Undefined => 0,
-        Kind::Null => 1,
-        Kind::Boolean => 2,
-        Kind::Number => 3,
-        Kind::String => 4,
-        Kind::Vec2 => 5,
-        Kind::Vec3 => 6,
-        Kind::Vec4 => 7,
-    }
+    kind as u8
 }
 
 // How many numbers a value of a kind has as components: a Number is its own one.
@@ -45,50 +41,10 @@ pub fn dimension(kind: Kind) -> u8
     ensures { result ≡ dimension_of kind }
 {
     match kind {
-        Kind::Undefined => 0,
-        Kind::Null => 0,
-        Kind::Boolean => 0,
         Kind::Number => 1,
-        Kind::String => 0,
         Kind::Vec2 => 2,
         Kind::Vec3 => 3,
         Kind::Vec4 => 4,
+        _ => 0,
     }
-}
-
-// Whether two kinds are one.
-pub fn is(kind: Kind, other: Kind) -> bool
-    ensures { result ≡ eq_kind kind other }
-{
-    number(kind) == number(other)
-}
-
-// The kind with so many components, if it is one of Number and the vectors.
-pub(crate) fn numeric(dimension: u8) -> Ruled
-    ensures { result ≡ numeric_of dimension }
-{
-    match dimension {
-        1 => Ruled::Gives(Kind::Number),
-        2 => Ruled::Gives(Kind::Vec2),
-        3 => Ruled::Gives(Kind::Vec3),
-        4 => Ruled::Gives(Kind::Vec4),
-        _ => Ruled::Fault,
-    }
-}
-
-pub(crate) fn gives_if(taken: bool, kind: Kind) -> Ruled
-    ensures { result ≡ gives_if taken kind }
-{
-    if taken {
-        Ruled::Gives(kind)
-    } else {
-        Ruled::Fault
-    }
-}
-
-// a if c, and else b.
-pub(crate) fn pick(c: bool, a: u8, b: u8) -> u8
-    ensures { result ≡ cond c a b }
-{
-    if c { a } else { b }
 }

@@ -3,7 +3,7 @@ ghost use Rattle.std.specs.Prelude.{◌≡◌};
 ghost use Rattle.kind.specs.Operation.{index_of};
 
 // Functions of one number, which go by component.
-#[derive(Clone, Copy)]
+#[derive(Clone, Copy, Debug, PartialEq, Eq)]
 pub enum Unary {
     Plus,
     Minus,
@@ -16,7 +16,7 @@ pub enum Unary {
 }
 
 // Functions of two numbers, which go by component.
-#[derive(Clone, Copy)]
+#[derive(Clone, Copy, Debug, PartialEq, Eq)]
 pub enum Binary {
     Add,
     Subtract,
@@ -28,14 +28,14 @@ pub enum Binary {
 }
 
 // Functions of three numbers, which go by component.
-#[derive(Clone, Copy)]
+#[derive(Clone, Copy, Debug, PartialEq, Eq)]
 pub enum Ternary {
     Clamp,
     Mix,
 }
 
 // `!`, `&&` and `||`.
-#[derive(Clone, Copy)]
+#[derive(Clone, Copy, Debug, PartialEq, Eq)]
 pub enum Logic {
     Not,
     And,
@@ -43,7 +43,7 @@ pub enum Logic {
 }
 
 // `<`, `<=`, `>` and `>=`.
-#[derive(Clone, Copy)]
+#[derive(Clone, Copy, Debug, PartialEq, Eq)]
 pub enum Order {
     Less,
     LessEqual,
@@ -52,21 +52,21 @@ pub enum Order {
 }
 
 // `===` and `!==`.
-#[derive(Clone, Copy)]
+#[derive(Clone, Copy, Debug, PartialEq, Eq)]
 pub enum Equality {
     Equal,
     NotEqual,
 }
 
 // Tests of one Number.
-#[derive(Clone, Copy)]
+#[derive(Clone, Copy, Debug, PartialEq, Eq)]
 pub enum Test {
     IsNan,
     IsFinite,
 }
 
 // What makes a vector or a colour.
-#[derive(Clone, Copy)]
+#[derive(Clone, Copy, Debug, PartialEq, Eq)]
 pub enum Constructor {
     Vec2,
     Vec3,
@@ -77,14 +77,14 @@ pub enum Constructor {
 }
 
 // Products of two vectors that are not by component.
-#[derive(Clone, Copy)]
+#[derive(Clone, Copy, Debug, PartialEq, Eq)]
 pub enum Product {
     Dot,
     Cross,
 }
 
 // What a pick picks: r g b a and the indices 0 to 3 are other names of x y z w.
-#[derive(Clone, Copy)]
+#[derive(Clone, Copy, Debug, PartialEq, Eq)]
 pub enum Member {
     X,
     Y,
@@ -92,7 +92,7 @@ pub enum Member {
     W,
 }
 
-#[derive(Clone, Copy)]
+#[derive(Clone, Copy, Debug, PartialEq, Eq)]
 pub enum Operation {
     Unary(Unary),
     Binary(Binary),
@@ -110,10 +110,5 @@ pub enum Operation {
 pub fn index(member: Member) -> u8
     ensures { result ≡ index_of member }
 {
-    match member {
-        Member::X => 0,
-        Member::Y => 1,
-        Member::Z => 2,
-        Member::W => 3,
-    }
+    member as u8
 }

@@ -4,7 +4,7 @@ ghost use Rattle.kind.specs.Set.{has, single_of, union_of, within_of, empty_of};
 
 use crate::kind::Kind;
 
-#[derive(Clone, Copy)]
+#[derive(Clone, Copy, Debug, Default, PartialEq, Eq)]
 pub struct Kinds {
     pub undefined: bool,
     pub null: bool,
@@ -41,90 +41,42 @@ impl Kinds {
 
     pub const UNDEFINED: Kinds = Kinds {
         undefined: true,
-        null: false,
-        boolean: false,
-        number: false,
-        string: false,
-        vec2: false,
-        vec3: false,
-        vec4: false,
+        ..Kinds::NONE
     };
 
     pub const NULL: Kinds = Kinds {
-        undefined: false,
         null: true,
-        boolean: false,
-        number: false,
-        string: false,
-        vec2: false,
-        vec3: false,
-        vec4: false,
+        ..Kinds::NONE
     };
 
     pub const BOOLEAN: Kinds = Kinds {
-        undefined: false,
-        null: false,
         boolean: true,
-        number: false,
-        string: false,
-        vec2: false,
-        vec3: false,
-        vec4: false,
+        ..Kinds::NONE
     };
 
     pub const NUMBER: Kinds = Kinds {
-        undefined: false,
-        null: false,
-        boolean: false,
         number: true,
-        string: false,
-        vec2: false,
-        vec3: false,
-        vec4: false,
+        ..Kinds::NONE
     };
 
     pub const STRING: Kinds = Kinds {
-        undefined: false,
-        null: false,
-        boolean: false,
-        number: false,
         string: true,
-        vec2: false,
-        vec3: false,
-        vec4: false,
+        ..Kinds::NONE
     };
 
     pub const VEC2: Kinds = Kinds {
-        undefined: false,
-        null: false,
-        boolean: false,
-        number: false,
-        string: false,
         vec2: true,
-        vec3: false,
-        vec4: false,
+        ..Kinds::NONE
     };
 
     pub const VEC3: Kinds = Kinds {
-        undefined: false,
-        null: false,
-        boolean: false,
-        number: false,
-        string: false,
-        vec2: false,
         vec3: true,
-        vec4: false,
+        ..Kinds::NONE
     };
 
     pub const VEC4: Kinds = Kinds {
-        undefined: false,
-        null: false,
-        boolean: false,
-        number: false,
-        string: false,
-        vec2: false,
-        vec3: false,
         vec4: true,
+        ..Kinds::NONE
     };
 
     // The set of one kind.
@@ -177,22 +129,13 @@ impl Kinds {
     pub fn is_empty(self) -> bool
         ensures { result ≡ empty_of self }
     {
-        !(self.undefined
-            | (self.null
-                | (self.boolean
-                    | (self.number | (self.string | (self.vec2 | (self.vec3 | self.vec4)))))))
+        self == Kinds::NONE
     }
 
     // Whether every kind of the set is in the other.
     pub fn is_within(self, other: Kinds) -> bool
         ensures { result ≡ within_of self other }
     {
-        (!self.undefined | other.undefined)
-            & ((!self.null | other.null)
-                & ((!self.boolean | other.boolean)
-                    & ((!self.number | other.number)
-                        & ((!self.string | other.string)
-                            & ((!self.vec2 | other.vec2)
-                                & ((!self.vec3 | other.vec3) & (!self.vec4 | other.vec4)))))))
+        self.union(other) == other
     }
 }

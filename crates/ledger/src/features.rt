@@ -1,13 +1,13 @@
 // The lines of the features, each with its number.
-ghost use Rattle.std.specs.Prelude.{◌≤◌, length};
+ghost use Rattle.std.specs.Prelude.{◌≡◌, ◌<◌, ◌≤◌, ◌+◌, IfSome, length};
 
+use crate::input;
 use crate::input::Input;
 use crate::writer::Writer;
-use crate::{input, writer};
+use evaluator::values::Values;
 use painter::given::given;
-use painter::print;
-use plan::layout::{FLOATS, Floats, Plan, SPANS, Spans};
-use text::part;
+use plan::layout::{Plan, UNDECLARED};
+use value::value::Value;
 
 // The first number that is refused. The output ends with its line.
 const LAST: usize = 1_000_000;
@@ -18,281 +18,119 @@ const MOST_BYTES: usize = 4096;
 // No input has as many. Nothing says that it ends, so the loop that reads it counts.
 const MOST_BLOCKS: u64 = 0x1_0000_0000_0000;
 
-// How far the lines of a block are done.
-#[derive(Clone, Copy)]
-struct Progress {
-    // Where those begin that are left.
-    pub at: usize,
-    // The number of the next.
-    pub number: usize,
-    // How many bytes of the output wait to be written.
-    pub waiting: usize,
-    // Whether the block begins inside a line that is done, because it was too long.
-    pub inside: bool,
-    // Whether the input ends with the block.
-    pub input_ends: bool,
+// A head, and what it is compiled to.
+#[derive(Clone, Copy, Drop)]
+pub(crate) struct Style<'a> {
+    pub(crate) head: &'a [u8],
+    pub(crate) plan: &'a Plan,
+    pub(crate) slots: &'a [u16],
 }
 
-// The length of a feature's line, which is written at the front.
-fn line(
-    head: &[u8],
-    plan: &Plan,
-    slots: &[u16],
-    feature: &[u8],
+// The features of a style, as far as their lines are done.
+#[derive(Drop)]
+struct Features<'a> {
+    style: Style<'a>,
+    // Room for the values of a feature, which each uses in turn.
+    values: Values,
+    // The number of the next line.
     number: usize,
-    out: &mut [u8],
-    spans: &mut Spans,
-    floats: &mut Floats,
-) -> usize
-    ensures { result ≤ length out.old }
-{
-    let drawn = given(head, plan, slots, feature, number, spans, floats);
-    print::line(drawn, number, out)
+    // Whether the next block begins inside a line that is done, because it was too long.
+    inside: bool,
 }
 
-// How many bytes wait with the next line behind the others.
-fn add(
-    writer: &mut Writer,
-    head: &[u8],
-    plan: &Plan,
-    slots: &[u16],
-    feature: &[u8],
-    out: &mut [u8],
-    spans: &mut Spans,
-    floats: &mut Floats,
-    p: Progress,
-) -> usize
-    requires { p.waiting ≤ length out.old }
-    ensures { result ≤ length out.old }
-{
-    let at = writer::place(writer, out, p.waiting);
-    at + line(
-        head,
-        plan,
-        slots,
-        feature,
-        p.number,
-        &mut out[at..],
-        spans,
-        floats,
-    )
-}
+impl<'a> Features<'a> {
+    // The next feature.
+    fn add(&mut self, writer: &mut Writer, feature: &[u8])
+        requires { self.old.number ≤ LAST }
+        ensures { self.new.number ≡ self.old.number + 1 }
+    {
+        let Style { head, plan, slots } = self.style;
+        let number = self.number;
+        let drawn = given(head, plan, slots, feature, number, &mut self.values);
+        writer.line(drawn, number);
+        self.number += 1;
+    }
 
-// Passes over the rest of a line that is done.
-fn begin(block: &[u8], p: Progress) -> Progress
-    ensures at { result.at ≤ length block.now }
-    ensures waiting { result.waiting ≤ p.waiting }
-{
-    let mut at = 0;
-    let mut inside = p.inside;
-    if inside {
-        at = part::end(part::LINE_FEED, block, 0);
-        if at < block.len() {
-            at += 1;
-            inside = false;
+    // What a block has behind the rest of a line that is done.
+    fn begin<'b>(&mut self, block: &'b [u8]) -> &'b [u8]
+        ensures { length result.now ≤ length block.now }
+    {
+        if !self.inside {
+            return block;
+        }
+        match line_end(block) {
+            None => &block[block.len()..],
+            Some(end) => {
+                self.inside = false;
+                &block[end + 1..]
+            }
         }
     }
-    Progress {
-        at,
-        number: p.number,
-        waiting: p.waiting,
-        inside,
-        input_ends: p.input_ends,
-    }
-}
 
-// The lines that an LF ends.
-fn ended_lines(
-    writer: &mut Writer,
-    head: &[u8],
-    plan: &Plan,
-    slots: &[u16],
-    block: &[u8],
-    out: &mut [u8],
-    spans: &mut Spans,
-    floats: &mut Floats,
-    p: Progress,
-) -> Progress
-    requires at { p.at ≤ length block.now }
-    requires waiting { p.waiting ≤ length out.old }
-    ensures at { result.at ≤ length block.now }
-    ensures waiting { result.waiting ≤ length out.old }
-{
-    let mut q = p;
-    while q.number <= LAST {
-        let at = q.at;
-        let end = part::end(part::LINE_FEED, block, at);
-        if block.len() <= end {
-            break;
+    // The lines that an LF ends. Gives what is left behind them, which an iterator of lines would not.
+    fn ended_lines<'b>(&mut self, writer: &mut Writer, begun: &'b [u8]) -> &'b [u8]
+        ensures { length result.now ≤ length begun.now }
+    {
+        let mut rest = begun;
+        while self.number <= LAST {
+            let Some(end) = line_end(rest) else {
+                break;
+            };
+            self.add(writer, &rest[..end]);
+            rest = &rest[end + 1..];
         }
-        let waiting = add(
-            writer,
-            head,
-            plan,
-            slots,
-            &block[at..end],
-            out,
-            spans,
-            floats,
-            q,
-        );
-        q.at = end + 1;
-        q.number += 1;
-        q.waiting = waiting;
+        rest
     }
-    q
-}
 
-// The bytes behind the last LF as a line.
-fn last_line(
-    writer: &mut Writer,
-    head: &[u8],
-    plan: &Plan,
-    slots: &[u16],
-    block: &[u8],
-    out: &mut [u8],
-    spans: &mut Spans,
-    floats: &mut Floats,
-    p: Progress,
-) -> Progress
-    requires at { p.at ≤ length block.now }
-    requires number { p.number ≤ 1000000 }
-    requires waiting { p.waiting ≤ length out.old }
-    ensures at { result.at ≤ length block.now }
-    ensures waiting { result.waiting ≤ length out.old }
-{
-    let at = p.at;
-    let waiting = add(
-        writer,
-        head,
-        plan,
-        slots,
-        &block[at..],
-        out,
-        spans,
-        floats,
-        p,
-    );
-    Progress {
-        at: block.len(),
-        number: p.number + 1,
-        waiting,
-        inside: true,
-        input_ends: p.input_ends,
-    }
-}
-
-// The lines of a block. The last, which no LF ends, is one of them if the input ends with the block,
-// or if it is too long already.
-fn lines(
-    writer: &mut Writer,
-    head: &[u8],
-    plan: &Plan,
-    slots: &[u16],
-    block: &[u8],
-    out: &mut [u8],
-    spans: &mut Spans,
-    floats: &mut Floats,
-    p: Progress,
-) -> Progress
-    requires { p.waiting ≤ length out.old }
-    ensures at { result.at ≤ length block.now }
-    ensures waiting { result.waiting ≤ length out.old }
-{
-    let q = ended_lines(
-        writer,
-        head,
-        plan,
-        slots,
-        block,
-        out,
-        spans,
-        floats,
-        begin(block, p),
-    );
-    let left = block.len() - q.at;
-    if q.number <= LAST {
-        if (p.input_ends & (0 < left)) | (MOST_BYTES < left) {
-            return last_line(writer, head, plan, slots, block, out, spans, floats, q);
+    // The lines of a block. The last, which no LF ends, is one of them if the input ends with the block,
+    // or if it is too long already. Gives how many bytes of the block are left.
+    fn lines(&mut self, writer: &mut Writer, block: &[u8], input_ends: bool) -> usize
+        ensures { result ≤ length block.now }
+    {
+        let begun = self.begin(block);
+        let left = self.ended_lines(writer, begun);
+        let ends = (input_ends & !left.is_empty()) | (MOST_BYTES < left.len());
+        if (LAST < self.number) | !ends {
+            return left.len();
         }
+        self.add(writer, left);
+        self.inside = true;
+        0
     }
-    q
 }
 
-// The lines of all features, of which the block holds the first bytes already. Gives how many bytes
-// of the output wait.
-fn all_lines(
-    input: &mut Input,
-    writer: &mut Writer,
-    head: &[u8],
-    plan: &Plan,
-    slots: &[u16],
-    block: &mut [u8],
-    held: usize,
-    out: &mut [u8],
-    spans: &mut Spans,
-    floats: &mut Floats,
-) -> usize
-    requires { held ≤ length block.old }
-    ensures { result ≤ length out.old }
+// Where the first line of a text ends, if an LF ends it.
+fn line_end(text: &[u8]) -> Option<usize>
+    ensures { IfSome result (λ end. end < length text.now) }
 {
-    let mut kept = held;
-    let mut p = Progress {
-        at: 0,
-        number: 1,
-        waiting: 0,
-        inside: false,
-        input_ends: false,
-    };
-    for _ in 0..MOST_BLOCKS {
-        let end = input::fill(input, block, kept);
-        let input_ends = end < block.len();
-        p.input_ends = input_ends;
-        p = lines(
-            writer,
-            head,
-            plan,
-            slots,
-            &block[..end],
-            out,
-            spans,
-            floats,
-            p,
-        );
-        if input_ends | (LAST < p.number) | writer::has_failed(writer) {
-            return p.waiting;
-        }
-        kept = input::keep(block, p.at);
-    }
-    p.waiting
+    text.iter().position(|byte| *byte == b'\n')
 }
 
-// The arrays for the values of a feature are lent to each in turn.
+// The lines of all features, of which the block holds the first bytes already.
 pub(crate) fn print(
     input: &mut Input,
     writer: &mut Writer,
-    head: &[u8],
-    plan: &Plan,
-    slots: &[u16],
+    style: Style<'_>,
     block: &mut [u8],
     held: usize,
-    out: &mut [u8],
 )
     requires { held ≤ length block.old }
 {
-    let mut spans = [0usize; SPANS];
-    let mut floats = [0.0f64; FLOATS];
-    let waiting = all_lines(
-        input,
-        writer,
-        head,
-        plan,
-        slots,
-        block,
-        held,
-        out,
-        &mut spans,
-        &mut floats,
-    );
-    writer::text(writer, &out[..waiting]);
+    let mut features = Features {
+        style,
+        values: [Value::Undefined; UNDECLARED],
+        number: 1,
+        inside: false,
+    };
+    let mut kept = held;
+    for _block in 0..MOST_BLOCKS {
+        let end = input.fill(block, kept);
+        let input_ends = end < block.len();
+        let left = features.lines(writer, &block[..end], input_ends);
+        if input_ends | (LAST < features.number) | writer.has_failed() {
+            break;
+        }
+        kept = input::keep(block, end - left);
+    }
+    writer.flush();
 }

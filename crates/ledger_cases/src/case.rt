@@ -1,8 +1,6 @@
 // A case: a line with the lengths of an input and of its output, and then these two.
 use crate::made;
-use cases::tally::Outcome;
-use cases::{line, tally};
-use lexer::bytes::has_word;
+use cases::line;
 use reports::{read, report};
 use std::io::Read;
 use style::head::ROOM_SIZE;
@@ -12,102 +10,42 @@ const LINE: usize = 14;
 // More bytes than any input or output of the files has.
 const MOST: usize = 131_072;
 
-// Cases count from 0. One whose line is malformed does not agree.
-fn malformed(rt: &impl Print, name: &[u8], number: u64) -> bool {
-    report::text(rt, name);
-    report::decimal(rt, b": malformed: ", number);
-    report::text(rt, b"\n");
-    false
-}
-
-fn difference(rt: &impl Print, name: &[u8], number: u64, wanted: &[u8], got: &[u8]) {
-    report::text(rt, name);
-    report::decimal(rt, b": ", number);
-    report::text(rt, b"\nwanted\n");
-    report::text(rt, wanted);
-    report::text(rt, b"got\n");
-    report::text(rt, got);
-}
-
-fn same(rt: &impl Print, name: &[u8], number: u64, wanted: &[u8], got: &[u8]) -> bool {
-    if (got.len() == wanted.len()) & has_word(got, 0, wanted) {
-        return true;
+// The input and its output stand behind the line. The room for what comes is larger than any output of
+// the files, so that a longer one is seen to be.
+fn agrees(
+    rt: &impl Print,
+    file: &mut impl Read,
+    name: &str,
+    number: u64,
+    line: &[u8],
+) -> Option<bool> {
+    if !line::fits(line, b"hhhhhh hhhhhh\n") {
+        return None;
     }
-    difference(rt, name, number, wanted, got);
-    false
-}
-
-// The room for what comes is larger than any output of the files, so that a longer one is seen to be.
-fn made_agrees(rt: &impl Print, name: &[u8], number: u64, input: &[u8], wanted: &[u8]) -> bool {
+    let (mut input, mut wanted) = ([0u8; MOST], [0u8; MOST]);
+    let input = read::bytes(file, &mut input, line::number(line, 0, 6) as usize)?;
+    let wanted = read::bytes(file, &mut wanted, line::number(line, 7, 13) as usize)?;
     let mut slots = [0u16; ROOM_SIZE];
     let mut out = [0u8; MOST + 128];
     let end = made::output(input, &mut slots, &mut out);
-    same(rt, name, number, wanted, &out[..end])
+    let got = &out[..end];
+    if got == wanted {
+        return Some(true);
+    }
+    let _ = println!(rt; "{name}: {number}\nwanted");
+    report::text(rt, wanted);
+    report::text(rt, b"got\n");
+    report::text(rt, got);
+    Some(false)
 }
 
-fn output_agrees(
-    rt: &impl Print,
-    file: &mut impl Read,
-    name: &[u8],
-    number: u64,
-    input: &[u8],
-    wanted: &mut [u8],
-) -> bool {
-    if read::full(file, wanted) {
-        return made_agrees(rt, name, number, input, wanted);
+// Cases count from 0. One whose line is malformed does not agree.
+pub(crate) fn next(rt: &impl Print, file: &mut impl Read, name: &str, number: u64) -> Option<bool> {
+    let mut room = [0u8; LINE];
+    let line = read::line(file, &mut room)?;
+    let answer = agrees(rt, file, name, number, line);
+    if answer.is_none() {
+        let _ = println!(rt; "{name}: malformed: {number}");
     }
-    malformed(rt, name, number)
-}
-
-// Lends the room for the output.
-fn with_output(
-    rt: &impl Print,
-    file: &mut impl Read,
-    name: &[u8],
-    number: u64,
-    line: &[u8],
-    input: &[u8],
-) -> bool {
-    let length = line::number(line, 7, 13) as usize;
-    if length <= MOST {
-        let mut wanted = [0u8; MOST];
-        return output_agrees(rt, file, name, number, input, &mut wanted[..length]);
-    }
-    malformed(rt, name, number)
-}
-
-fn input_agrees(
-    rt: &impl Print,
-    file: &mut impl Read,
-    name: &[u8],
-    number: u64,
-    line: &[u8],
-    input: &mut [u8],
-) -> bool {
-    if read::full(file, input) {
-        return with_output(rt, file, name, number, line, input);
-    }
-    malformed(rt, name, number)
-}
-
-// A line that is malformed does not agree.
-fn agrees(rt: &impl Print, file: &mut impl Read, name: &[u8], number: u64, line: &[u8]) -> bool {
-    let length = line::number(line, 0, 6) as usize;
-    if line::fits(line, b"hhhhhh hhhhhh\n") {
-        if length <= MOST {
-            let mut input = [0u8; MOST];
-            return input_agrees(rt, file, name, number, line, &mut input[..length]);
-        }
-    }
-    malformed(rt, name, number)
-}
-
-// Nothing more to read is the end.
-pub(crate) fn next(rt: &impl Print, file: &mut impl Read, name: &[u8], number: u64) -> Outcome {
-    let mut line = [0u8; LINE];
-    let n = read::some(file, &mut line);
-    if n == 0 {
-        return Outcome::End;
-    }
-    tally::compared(agrees(rt, file, name, number, &line[..n]))
+    Some(answer.unwrap_or(false))
 }

@@ -1,12 +1,10 @@
 // The output of an input, made by the functions that check a head and that paint a feature.
 ghost use Rattle.std.specs.Prelude.{◌≤◌, length};
 
-use lexer::bytes::least;
 use output::line::{refused_feature, refused_head};
 use output::page;
-use painter::answer::Painted;
 use painter::paint::paint;
-use style::check::{Checked, LineRefusal, check};
+use style::check::{LineRefusal, check};
 use text::head::head_end;
 use text::part;
 
@@ -15,12 +13,13 @@ fn line(head: &[u8], feature: &[u8], number: usize, slots: &mut [u16], out: &mut
     ensures { result ≤ length out.old }
 {
     match paint(head, feature, number, out, slots) {
-        Painted::Refused(r) => refused_feature(out, number, r.refusal.number, r.refusal.place),
-        Painted::Painted { given: _, bytes } => least(bytes, out.len()),
+        Err(r) => refused_feature(out, number, u8::from(r.refusal.reason), r.refusal.place),
+        Ok(painted) => painted.bytes.min(out.len()),
     }
 }
 
-// Where the lines of all features end, which begin behind the heading.
+// Where the lines of all features end, which begin behind the heading. No `split`: it would give a line
+// behind the last LF too.
 fn lines(head: &[u8], features: &[u8], slots: &mut [u16], out: &mut [u8], heading: usize) -> usize
     requires { heading ≤ length out.old }
     ensures { result ≤ length out.old }
@@ -46,7 +45,13 @@ fn refused(r: LineRefusal, out: &mut [u8], heading: usize) -> usize
     ensures { result ≤ length out.old }
 {
     let refusal = r.refusal;
-    heading + refused_head(&mut out[heading..], refusal.number, r.line, refusal.place)
+    heading
+        + refused_head(
+            &mut out[heading..],
+            u8::from(refusal.reason),
+            r.line,
+            refusal.place,
+        )
 }
 
 // Where the output ends.
@@ -56,7 +61,7 @@ pub(crate) fn output(input: &[u8], slots: &mut [u16], out: &mut [u8]) -> usize
     let heading = page::text(out, 0, b"strip\tshow\tcolour\n");
     let end = head_end(input);
     match check(&input[..end], slots) {
-        Checked::Refused(r) => refused(r, out, heading),
-        Checked::Accepted => lines(&input[..end], &input[end..], slots, out, heading),
+        Err(r) => refused(r, out, heading),
+        Ok(()) => lines(&input[..end], &input[end..], slots, out, heading),
     }
 }

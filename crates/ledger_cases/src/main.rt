@@ -6,59 +6,35 @@
 mod case;
 mod made;
 
-use cases::tally;
-use cases::tally::{Outcome, Tally, sum};
-use reports::report;
-use std::fs::File;
-use std::io::Read;
-use std::rt::Files;
+use cases::tally::{MOST_CASES, Tally};
+use reports::{count, report};
 
-fn count_cases(rt: &impl Print, file: &mut impl Read, name: &[u8]) -> Tally {
-    let mut t = tally::NONE;
-    for i in 0..tally::MOST_CASES {
-        let o = case::next(rt, file, name, i);
-        if let Outcome::End = o {
-            return t;
-        }
-        t = tally::with(t, o);
-    }
-    t
-}
-
-fn run(rt: &(impl Files + Print), path: &str) -> Tally {
-    let name = path.as_bytes();
-    match File::open(rt, path) {
-        Ok(mut file) => {
-            let t = count_cases(rt, &mut file, name);
-            report::counts(rt, name, t)
-        }
-        Err(_) => report::missing(rt, name),
-    }
-}
-
-// Styles, and what they work out.
-fn styles(rt: &(impl Files + Print)) -> Tally {
-    let mut t = run(rt, "sample");
-    t = sum(t, run(rt, "styles"));
-    t = sum(t, run(rt, "conditions"));
-    t = sum(t, run(rt, "defines"));
-    t = sum(t, run(rt, "colours"));
-    t = sum(t, run(rt, "strings"));
-    t = sum(t, run(rt, "vectors"));
-    sum(t, run(rt, "numbers"))
-}
-
-// Inputs, right and wrong.
-fn inputs(rt: &(impl Files + Print)) -> Tally {
-    let mut t = run(rt, "heads");
-    t = sum(t, run(rt, "features"));
-    t = sum(t, run(rt, "ends"));
-    t = sum(t, run(rt, "sizes"));
-    t = sum(t, run(rt, "random"));
-    sum(t, run(rt, "damaged"))
-}
+// Styles, and what they work out; and inputs, right and wrong.
+const FILES: [&str; 14] = [
+    "sample",
+    "styles",
+    "conditions",
+    "defines",
+    "colours",
+    "strings",
+    "vectors",
+    "numbers",
+    "heads",
+    "features",
+    "ends",
+    "sizes",
+    "random",
+    "damaged",
+];
 
 fn main(rt: HostRuntime) {
-    let t = styles(&rt);
-    report::counts(&rt, b"total", sum(t, inputs(&rt)));
+    let mut total = Tally::default();
+    for name in FILES {
+        total = total
+            + count::file(&rt, name, |mut file| {
+                let mut numbers = 0..MOST_CASES;
+                count::all(|| case::next(&rt, &mut file, name, numbers.next()?))
+            });
+    }
+    report::counts(&rt, "total", total);
 }

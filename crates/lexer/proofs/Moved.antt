@@ -12,12 +12,11 @@ use Rattle.number.specs.Decimal.{whole_part, fraction, joined, with_point, most_
 use Rattle.number.specs.declared.decimal.Decimal.{Decimal}
 use Rattle.number.specs.declared.decimal.Decimal.TheVariants as decimal
 use Rattle.lexer.specs.Bytes.{is_space, is_name_byte, is_name_length, in_class, run, begins, place_in}
-use Rattle.lexer.specs.Punctuator.{spelled_by}
+use Rattle.std.specs.Prelude.{Some, None}
+use Rattle.lexer.specs.Punctuator.{Spelled, spelled_by}
 use Rattle.lexer.specs.Token.{literal_words, Start, quote, dollar, letter, other, start_of, starting_at, string_at, variable_at}
 use Rattle.lexer.specs.Token.{word_at, lexeme_of, punctuator_at, other_at, number_or, first_at, lexeme_at}
 use Rattle.lexer.specs.declared.bytes.Class.TheVariants.{Inside}
-use Rattle.lexer.specs.declared.punctuator.Spelled.{Spelled}
-use Rattle.lexer.specs.declared.punctuator.Spelled.TheVariants.{Listed, Refused}
 use Rattle.lexer.specs.declared.token.Token.{Token}
 use Rattle.lexer.specs.declared.token.Token.TheVariants.{String, Variable, Word, Punctuator}
 use Rattle.lexer.specs.declared.token.Lexeme.{Lexeme}
@@ -82,8 +81,8 @@ module _ (base at : ℕ) where
   word_moved rest = let n = run is_name_byte rest in ap (Found (Word (place_in literal_words (take n rest))) (base + at)) (add_assoc base at n)
 
   spelled-moved : (s : Spelled) → lexeme_of (base + at) s ≡ moved base (lexeme_of at s)
-  spelled-moved (Listed k n) = ap (Found (Punctuator k) (base + at)) (add_assoc base at n)
-  spelled-moved (Refused n) = ap (Bad (base + at)) (add_assoc base at n)
+  spelled-moved (Some k, n) = ap (Found (Punctuator k) (base + at)) (add_assoc base at n)
+  spelled-moved (None, n) = ap (Bad (base + at)) (add_assoc base at n)
 
   punctuator-moved : (rest : List ℕ) → punctuator_at (base + at) rest ≡ moved base (punctuator_at at rest)
   unfolding punctuator_at

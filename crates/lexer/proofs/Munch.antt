@@ -18,11 +18,11 @@ use Rattle.number.specs.declared.decimal.Decimal.TheVariants as decimal
 use Rattle.number.proofs.Longest as numbers
 use Rattle.number.proofs.Longest.{number-first}
 use Rattle.lexer.specs.Bytes.{is_space, is_quote, is_word_start, is_name_byte, is_name_length, in_class, run, begins, place_in}
+use Rattle.std.specs.Prelude.{Option}
 use Rattle.lexer.specs.Punctuator.{punctuators, refused_operators, longest_of, judged}
 use Rattle.lexer.specs.Token.{literal_words, string_at, variable_at, word_at, lexeme_of, punctuator_at, Start, quote, dollar, letter, other, starting_at, other_at, number_or, first_at, lexeme_at}
 use Rattle.lexer.specs.Spelling.{All, Spells, number, string, variable, word, punctuator, Refuses, long-number, refused-operator, NoLonger, SpacesUpTo, Munch}
 use Rattle.lexer.specs.declared.bytes.Class.TheVariants.{Inside}
-use Rattle.lexer.specs.declared.punctuator.Spelled.{Spelled}
 use Rattle.lexer.specs.declared.token.Token.{Token}
 use Rattle.lexer.specs.declared.token.Token.TheVariants.{Number, String, Variable, Word, Punctuator}
 use Rattle.lexer.specs.declared.token.Lexeme.{Lexeme}
@@ -131,7 +131,7 @@ punctuator-judged at b bs l h k = go l h.is_one (k (length l) (λ m f. rw f.4 (h
     go (c ∷ s) (inl e) n = absurd (nil≢cons (sym e))
     go (c ∷ s) (inr o) n =
         let taken : c ∷ s ≡ take (length (c ∷ s)) (b ∷ bs) = sym (begins-take (c ∷ s) (b ∷ bs) o.1) in
-        by-test (λ (x : Spelled). Here at (b ∷ bs) (lexeme_of at x)) (ltb (place_in punctuators (c ∷ s)) (length punctuators))
+        by-test (λ (x : Option ℕ). Here at (b ∷ bs) (lexeme_of at (x, length (c ∷ s)))) (ltb (place_in punctuators (c ∷ s)) (length punctuators))
         (λ t. found at (b ∷ bs) (length (c ∷ s)) (Punctuator (place_in punctuators (c ∷ s)))
         (subst (λ (i : List ℕ). Spells i (Punctuator (place_in punctuators (c ∷ s)))) taken (punctuator (place-mem punctuators (c ∷ s) (ltb-true _ _ t)))) n)
         (λ t. refused at (b ∷ bs) (length (c ∷ s)) (subst Refuses taken (refused-operator (not_first punctuators refused_operators (c ∷ s) o.0 (ltb-false _ _ t)))) n)

@@ -1,8 +1,6 @@
 -- Punctuators, the longest of which is taken: page 01, "Tokens and grammar".
-use Rattle.std.specs.Prelude.{Bool, true, false, cond, List, [], ◌∷◌, ◌++◌, ℕ, leb, ltb, length}
+use Rattle.std.specs.Prelude.{Bool, true, false, cond, List, [], ◌∷◌, ◌++◌, ℕ, leb, ltb, length, Option, Some, None}
 use Rattle.lexer.specs.Bytes.{begins, place_in, ascii}
-use Rattle.lexer.specs.declared.punctuator.Spelled.{Spelled}
-use Rattle.lexer.specs.declared.punctuator.Spelled.TheVariants.{Listed, Refused}
 
 -- "Operators: `? : || && === !== < <= > >= + - * / % !`, and `( ) [ ] , .`": a punctuator's number is its place in this list.
 abbrev pub punctuators : List (List ℕ)
@@ -55,12 +53,16 @@ abbrev pub longest_of : List (List ℕ) → List ℕ → List ℕ
 longest_of [] text = []
 longest_of (s ∷ ss) text = longer_if (begins s text) s (longest_of ss text)
 
+-- a spelling's number, or none where it is refused, and its length
+abbrev pub Spelled : Type 0
+Spelled = Option ℕ × ℕ
+
 -- What the longest is. A text that begins with none has a byte there that is not listed, as "a lone `&`" or one outside 0x20 to 0x7E.
 abbrev pub judged : List ℕ → Spelled
-judged [] = Refused 1
+judged [] = (None, 1)
 judged (b ∷ bs) =
     let n = place_in punctuators (b ∷ bs) in
-    cond (ltb n (length punctuators)) (Listed n (length (b ∷ bs))) (Refused (length (b ∷ bs)))
+    (cond (ltb n (length punctuators)) (Some n) None, length (b ∷ bs))
 
 unfoldable pub spelled_by : List ℕ → Spelled
 spelled_by text = judged (longest_of (punctuators ++ refused_operators) text)

@@ -1,14 +1,12 @@
 -- The token at a place: page 01, "Tokens and grammar".
-use Rattle.std.specs.Prelude.{cond, ◌&&◌, List, [], ◌∷◌, ℕ, ◌+◌, ◌-◌, eqb, take, drop}
+use Rattle.std.specs.Prelude.{cond, ◌&&◌, List, [], ◌∷◌, ℕ, ◌+◌, ◌-◌, eqb, take, drop, Some, None}
 use Rattle.std.proofs.Math.Seq.{slice}
 use Rattle.number.specs.Decimal.{read_at}
 use Rattle.number.specs.declared.decimal.Decimal.{Decimal}
 use Rattle.number.specs.declared.decimal.Decimal.TheVariants as decimal
 use Rattle.lexer.specs.Bytes.{is_space, is_quote, is_word_start, is_name_byte, is_name_length, in_class, run, begins, place_in, ascii}
-use Rattle.lexer.specs.Punctuator.{spelled_by}
+use Rattle.lexer.specs.Punctuator.{Spelled, spelled_by}
 use Rattle.lexer.specs.declared.bytes.Class.TheVariants.{Inside}
-use Rattle.lexer.specs.declared.punctuator.Spelled.{Spelled}
-use Rattle.lexer.specs.declared.punctuator.Spelled.TheVariants.{Listed, Refused}
 use Rattle.lexer.specs.declared.token.Token.TheVariants.{Number, String, Variable, Word, Punctuator}
 use Rattle.lexer.specs.declared.token.Lexeme.{Lexeme}
 use Rattle.lexer.specs.declared.token.Lexeme.TheVariants.{Found, Bad, End}
@@ -51,8 +49,8 @@ unfolding run
 word_at at rest = let n = run is_name_byte rest in Found (Word (place_in literal_words (take n rest))) at (at + n)
 
 abbrev pub lexeme_of : ℕ → Spelled → Lexeme
-lexeme_of at (Listed k n) = Found (Punctuator k) at (at + n)
-lexeme_of at (Refused n) = Bad at (at + n)
+lexeme_of at (Some k, n) = Found (Punctuator k) at (at + n)
+lexeme_of at (None, n) = Bad at (at + n)
 
 unfoldable pub punctuator_at : ℕ → List ℕ → Lexeme
 unfolding spelled_by

@@ -1,12 +1,11 @@
 // Punctuators (operators, brackets, the comma and the dot), and the operators that are refused.
-ghost use Rattle.std.specs.Prelude.{◌≡◌, cond, ◌∷◌, [], ◌≤◌, length, drop};
-ghost use Rattle.lexer.specs.declared.punctuator.Spelled.TheVariants.{Listed, Refused};
+ghost use Rattle.std.specs.Prelude.{◌≡◌, ◌∷◌, [], drop};
 ghost use Rattle.lexer.specs.Punctuator.{spelled_by};
 
 use crate::bytes::byte_after;
 
-// A punctuator's number is its place in page 01's list, where binary operators stand by precedence,
-// lowest first.
+// A punctuator's number is its place in page 01's list, where binary operators stand by precedence, lowest first.
+// Numbers and no enum: a slot of a tree, a symbol of the grammar and its levels go by them.
 pub const QUESTION: u8 = 0;
 
 pub const COLON: u8 = 1;
@@ -51,73 +50,46 @@ pub const COMMA: u8 = 20;
 
 pub const DOT: u8 = 21;
 
-// What the longest spelling at a place is, and its length. A byte that begins none is refused by
-// itself.
-#[derive(Clone, Copy)]
-pub(crate) enum Spelled {
-    Listed { number: u8, length: usize },
-    Refused { length: usize },
-}
-
-fn listed(number: u8, length: usize) -> Spelled
-    ensures { result ≡ Listed number length }
-{
-    Spelled::Listed { number, length }
-}
-
-fn refused(length: usize) -> Spelled
-    ensures { result ≡ Refused length }
-{
-    Spelled::Refused { length }
-}
-
-fn choose(first: bool, a: Spelled, b: Spelled) -> Spelled
-    ensures { result ≡ cond first a b }
-{
-    if first { a } else { b }
-}
-
 // The longest spelling that begins with a byte `b`, where `c` and `d` follow it.
-fn spelled_by(b: u8, c: u8, d: u8) -> Spelled
+fn spelled_by(b: u8, c: u8, d: u8) -> (Option<u8>, usize)
     ensures { result ≡ spelled_by (b ∷ c ∷ d ∷ []) }
 {
     let equals = c == b'=';
-    let both = equals & (d == b'=');
     match b {
-        b'?' => listed(QUESTION, 1),
-        b':' => listed(COLON, 1),
-        b'|' => choose(c == b, listed(OR, 2), refused(1)),
-        b'&' => choose(c == b, listed(AND, 2), refused(1)),
-        b'=' => choose(
-            both,
-            listed(EQUAL, 3),
-            choose(equals | (c == b'~'), refused(2), refused(1)),
-        ),
-        b'!' => choose(
-            both,
-            listed(UNEQUAL, 3),
-            choose(equals, refused(2), listed(NOT, 1)),
-        ),
-        b'<' => choose(equals, listed(LESS_OR_EQUAL, 2), listed(LESS, 1)),
-        b'>' => choose(equals, listed(GREATER_OR_EQUAL, 2), listed(GREATER, 1)),
-        b'+' => choose(c == b, refused(2), listed(PLUS, 1)),
-        b'-' => choose(c == b, refused(2), listed(MINUS, 1)),
-        b'*' => listed(TIMES, 1),
-        b'/' => listed(DIVIDE, 1),
-        b'%' => listed(REMAINDER, 1),
-        b'(' => listed(OPEN_ROUND, 1),
-        b')' => listed(CLOSE_ROUND, 1),
-        b'[' => listed(OPEN_SQUARE, 1),
-        b']' => listed(CLOSE_SQUARE, 1),
-        b',' => listed(COMMA, 1),
-        b'.' => listed(DOT, 1),
-        _ => refused(1),
+        b'?' => (Some(QUESTION), 1),
+        b':' => (Some(COLON), 1),
+        b'|' if c == b => (Some(OR), 2),
+        b'&' if c == b => (Some(AND), 2),
+        b'=' if equals && d == b'=' => (Some(EQUAL), 3),
+        b'=' if equals => (None, 2),
+        b'=' if c == b'~' => (None, 2),
+        b'!' if equals && d == b'=' => (Some(UNEQUAL), 3),
+        b'!' if equals => (None, 2),
+        b'!' => (Some(NOT), 1),
+        b'<' if equals => (Some(LESS_OR_EQUAL), 2),
+        b'<' => (Some(LESS), 1),
+        b'>' if equals => (Some(GREATER_OR_EQUAL), 2),
+        b'>' => (Some(GREATER), 1),
+        b'+' if c == b => (None, 2),
+        b'+' => (Some(PLUS), 1),
+        b'-' if c == b => (None, 2),
+        b'-' => (Some(MINUS), 1),
+        b'*' => (Some(TIMES), 1),
+        b'/' => (Some(DIVIDE), 1),
+        b'%' => (Some(REMAINDER), 1),
+        b'(' => (Some(OPEN_ROUND), 1),
+        b')' => (Some(CLOSE_ROUND), 1),
+        b'[' => (Some(OPEN_SQUARE), 1),
+        b']' => (Some(CLOSE_SQUARE), 1),
+        b',' => (Some(COMMA), 1),
+        b'.' => (Some(DOT), 1),
+        _ => (None, 1),
     }
 }
 
-// The longest spelling at a place.
-pub(crate) fn spelled_at(text: &[u8], at: usize) -> Spelled
-    requires { at ≤ length text.now }
+// The longest spelling at a place: its number, none where it is refused, and its length. A byte that begins no
+// spelling is refused by itself.
+pub(crate) fn spelled_at(text: &[u8], at: usize) -> (Option<u8>, usize)
     ensures { result ≡ spelled_by (drop at text.now) }
 {
     spelled_by(

@@ -3,11 +3,11 @@ ghost use Rattle.std.specs.Prelude.{◌≡◌, ◌<◌, suc, length, get_or, dro
 ghost use Rattle.lexer.specs.Token.{lexeme_at, other_at, string_at, variable_at, word_at, punctuator_at};
 
 use crate::bytes::{Class, has_byte, is_name_length, is_quote, is_word_start, run_end};
-use crate::punctuator::{Spelled, spelled_at};
+use crate::punctuator::spelled_at;
 use crate::word::word_number;
-use number::decimal;
+use number::decimal::{Decimal, read};
 
-#[derive(Clone, Copy)]
+#[derive(Clone, Copy, Debug, PartialEq, Eq)]
 pub enum Token {
     // The whole number of its digits, of which `places` stand after the point.
     Number { digits: u64, places: u8 },
@@ -21,13 +21,17 @@ pub enum Token {
     Punctuator(u8),
 }
 
-// What stands at a place, from `at` up to `end`.
-#[derive(Clone, Copy)]
+// What stands at a place, from `at` up to `end`. Each of the three has its own next step: a token is taken, what
+// begins none is refused, and at the end a reader is done.
+#[derive(Clone, Copy, Debug, PartialEq, Eq)]
 pub enum Lexeme {
     Found { token: Token, at: usize, end: usize },
     Bad { at: usize, end: usize },
     End,
 }
+
+// A text and a place in it go together here and stay two parameters: what is answered are places in the
+// whole text, which the text's rest by itself would not tell.
 
 // The string that a quote at a place opens.
 fn string_at(text: &[u8], at: usize, quote: u8) -> Lexeme
@@ -54,7 +58,7 @@ fn variable_at(text: &[u8], at: usize) -> Lexeme
     if has_byte(text, at + 1, b'{') {
         let name = at + 2;
         let end = run_end(text, name, Class::Name);
-        if is_name_length(end - name) & has_byte(text, end, b'}') {
+        if is_name_length(end - name) && has_byte(text, end, b'}') {
             return Lexeme::Found {
                 token: Token::Variable,
                 at,
@@ -71,9 +75,8 @@ fn word_at(text: &[u8], at: usize) -> Lexeme
     ensures { result ≡ word_at at (drop at text.now) }
 {
     let end = run_end(text, at, Class::Name);
-    let number = word_number(text, at, end - at);
     Lexeme::Found {
-        token: Token::Word(number),
+        token: Token::Word(word_number(&text[at..end])),
         at,
         end,
     }
@@ -84,16 +87,15 @@ fn punctuator_at(text: &[u8], at: usize) -> Lexeme
     requires { at < length text.now }
     ensures { result ≡ punctuator_at at (drop at text.now) }
 {
-    match spelled_at(text, at) {
-        Spelled::Listed { number, length } => Lexeme::Found {
+    let (number, length) = spelled_at(text, at);
+    let end = at + length;
+    match number {
+        Some(number) => Lexeme::Found {
             token: Token::Punctuator(number),
             at,
-            end: at + length,
+            end,
         },
-        Spelled::Refused { length } => Lexeme::Bad {
-            at,
-            end: at + length,
-        },
+        None => Lexeme::Bad { at, end },
     }
 }
 
@@ -104,15 +106,14 @@ fn other_at(text: &[u8], at: usize) -> Lexeme
 {
     let b = text[at];
     if is_quote(b) {
-        return string_at(text, at, b);
+        string_at(text, at, b)
+    } else if b == b'$' {
+        variable_at(text, at)
+    } else if is_word_start(b) {
+        word_at(text, at)
+    } else {
+        punctuator_at(text, at)
     }
-    if b == b'$' {
-        return variable_at(text, at);
-    }
-    if is_word_start(b) {
-        return word_at(text, at);
-    }
-    punctuator_at(text, at)
 }
 
 // What stands at a place, after spaces. The end of one token is where the next is looked for.
@@ -123,8 +124,8 @@ pub fn token_at(text: &[u8], from: usize) -> Lexeme
     if text.len() <= at {
         return Lexeme::End;
     }
-    match decimal::read(text, at) {
-        decimal::Decimal::Number {
+    match read(text, at) {
+        Decimal::Number {
             end,
             digits,
             places,
@@ -133,7 +134,7 @@ pub fn token_at(text: &[u8], from: usize) -> Lexeme
             at,
             end,
         },
-        decimal::Decimal::TooLong { end } => Lexeme::Bad { at, end },
-        decimal::Decimal::Nothing => other_at(text, at),
+        Decimal::TooLong { end } => Lexeme::Bad { at, end },
+        Decimal::Nothing => other_at(text, at),
     }
 }

@@ -1,11 +1,10 @@
 // Words, of which some are literals.
-ghost use Rattle.std.specs.Prelude.{◌≡◌, ◌+◌, ◌≤◌, length, take, drop};
-ghost use Rattle.lexer.specs.Bytes.{same, place_in};
+ghost use Rattle.std.specs.Prelude.{◌≡◌};
+ghost use Rattle.lexer.specs.Bytes.{place_in};
 ghost use Rattle.lexer.specs.Token.{literal_words};
 
-use crate::bytes::has_word;
-
-// A literal word's number is its place in page 01's list.
+// A literal word's number is its place in page 01's list. Numbers and no enum: a symbol of the grammar and a literal's
+// slot in a tree go by them.
 pub const TRUE: u8 = 0;
 
 pub const FALSE: u8 = 1;
@@ -21,40 +20,23 @@ pub const INFINITY: u8 = 5;
 // Any other word.
 pub const OTHER: u8 = 6;
 
-// Whether a part of a text is a word.
-fn is_word(text: &[u8], at: usize, size: usize, word: &[u8]) -> bool
-    requires { at + size ≤ length text.now }
-    ensures { result ≡ same (take size (drop at text.now)) word.now }
+// The number of a word.
+pub(crate) fn word_number(word: &[u8]) -> u8
+    ensures { result ≡ place_in literal_words word.now }
 {
-    if size == word.len() {
-        has_word(text, at, word)
+    if word == b"true".as_slice() {
+        TRUE
+    } else if word == b"false".as_slice() {
+        FALSE
+    } else if word == b"null".as_slice() {
+        NULL
+    } else if word == b"undefined".as_slice() {
+        UNDEFINED
+    } else if word == b"NaN".as_slice() {
+        NAN
+    } else if word == b"Infinity".as_slice() {
+        INFINITY
     } else {
-        false
+        OTHER
     }
-}
-
-// The number of the word that a part of a text is.
-pub(crate) fn word_number(text: &[u8], at: usize, size: usize) -> u8
-    requires { at + size ≤ length text.now }
-    ensures { result ≡ place_in literal_words (take size (drop at text.now)) }
-{
-    if is_word(text, at, size, b"true") {
-        return TRUE;
-    }
-    if is_word(text, at, size, b"false") {
-        return FALSE;
-    }
-    if is_word(text, at, size, b"null") {
-        return NULL;
-    }
-    if is_word(text, at, size, b"undefined") {
-        return UNDEFINED;
-    }
-    if is_word(text, at, size, b"NaN") {
-        return NAN;
-    }
-    if is_word(text, at, size, b"Infinity") {
-        return INFINITY;
-    }
-    OTHER
 }

@@ -3,32 +3,34 @@
 use crate::difference;
 use cases::line;
 use lexer::bytes;
-use reports::report;
+use reports::case::Case;
+
+pub(crate) const FORM: &[u8; 18] = b"hhh h h h h h h h\n";
 
 // Whether a class has the byte exactly if the line has 1 at the class's place.
-fn class_agrees(
-    rt: &impl Print,
-    name: &[u8],
-    head: &[u8],
-    text: &[u8],
-    at: usize,
-    has: bool,
-) -> bool {
-    if has == (line::byte(head, at) == b'1') {
+fn class_agrees(case: &Case<'_, impl Print>, text: &[u8], at: usize, has: bool) -> bool {
+    if has == (line::byte(case.line, at) == b'1') {
         return true;
     }
-    difference::front(rt, name, text, at);
-    report::text(rt, b" differs\n");
+    difference::front(case, text, at);
+    let _ = println!(case.rt; " differs");
     false
 }
 
-pub(crate) fn agrees(rt: &impl Print, name: &[u8], head: &[u8], text: &[u8]) -> bool {
+// All classes are compared, whatever comes of the first.
+pub(crate) fn agrees(case: &Case<'_, impl Print>, text: &[u8]) -> bool {
     let b = line::byte(text, 0);
-    class_agrees(rt, name, head, text, 4, bytes::is_space(b))
-        & class_agrees(rt, name, head, text, 6, bytes::is_letter(b))
-        & class_agrees(rt, name, head, text, 8, bytes::is_hex_digit(b))
-        & class_agrees(rt, name, head, text, 10, bytes::is_name_byte(b))
-        & class_agrees(rt, name, head, text, 12, bytes::is_word_start(b))
-        & class_agrees(rt, name, head, text, 14, bytes::is_quote(b))
-        & class_agrees(rt, name, head, text, 16, bytes::is_name_length(b as usize))
+    let mut same = true;
+    for (at, has) in [
+        (4, bytes::is_space(b)),
+        (6, bytes::is_letter(b)),
+        (8, bytes::is_hex_digit(b)),
+        (10, bytes::is_name_byte(b)),
+        (12, bytes::is_word_start(b)),
+        (14, bytes::is_quote(b)),
+        (16, bytes::is_name_length(b as usize)),
+    ] {
+        same = class_agrees(case, text, at, has) & same;
+    }
+    same
 }

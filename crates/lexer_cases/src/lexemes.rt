@@ -3,128 +3,122 @@ use crate::difference;
 use cases::line;
 use lexer::token;
 use lexer::token::{Lexeme, Token};
+use reports::case::Case;
 use reports::report;
 use std::io::Read;
 
-// The kind: N number, S string, V variable, W word, P punctuator, B bad, E end, and ? for a line
-// that is malformed. The value: a number's digits after the point, or a place in a list.
-#[derive(Clone, Copy)]
+// The kind is a line's letter: N number, S string, V variable, W word, P punctuator, B bad, E end, and ?
+// for a line that is malformed. The value: a number's digits after the point, or a place in a list.
+#[derive(Clone, Copy, Default, PartialEq, Eq, Drop)]
 pub(crate) struct Answer {
-    pub(crate) kind: u8,
-    pub(crate) value: u64,
-    pub(crate) at: u64,
+    kind: u8,
+    value: u64,
+    at: u64,
     pub(crate) end: u64,
-    pub(crate) digits: u64,
+    digits: u64,
 }
 
 const LINE: usize = 13;
 
 const DIGITS_LINE: usize = 17;
 
-fn plain(kind: u8, value: u64, at: u64, end: u64) -> Answer {
+// A token from one place up to another.
+fn of_token(token: Token, at: usize, end: usize) -> Answer {
+    let (kind, value, digits) = match token {
+        Token::Number { digits, places } => (b'N', places, digits),
+        Token::String => (b'S', 0, 0),
+        Token::Variable => (b'V', 0, 0),
+        Token::Word(k) => (b'W', k, 0),
+        Token::Punctuator(k) => (b'P', k, 0),
+    };
     Answer {
         kind,
-        value,
-        at,
-        end,
-        digits: 0,
-    }
-}
-
-fn of_token(t: Token, at: u64, end: u64) -> Answer {
-    match t {
-        Token::Number { digits, places } => Answer {
-            kind: b'N',
-            value: places as u64,
-            at,
-            end,
-            digits,
-        },
-        Token::String => plain(b'S', 0, at, end),
-        Token::Variable => plain(b'V', 0, at, end),
-        Token::Word(k) => plain(b'W', k as u64, at, end),
-        Token::Punctuator(k) => plain(b'P', k as u64, at, end),
+        value: u64::from(value),
+        at: at as u64,
+        end: end as u64,
+        digits,
     }
 }
 
 fn found(text: &[u8], from: usize) -> Answer {
     match token::token_at(text, from) {
-        Lexeme::Found { token, at, end } => of_token(token, at as u64, end as u64),
-        Lexeme::Bad { at, end } => plain(b'B', 0, at as u64, end as u64),
-        Lexeme::End => plain(b'E', 0, 0, 0),
+        Lexeme::Found { token, at, end } => of_token(token, at, end),
+        Lexeme::Bad { at, end } => Answer {
+            kind: b'B',
+            at: at as u64,
+            end: end as u64,
+            ..Answer::default()
+        },
+        Lexeme::End => Answer {
+            kind: b'E',
+            ..Answer::default()
+        },
     }
 }
 
-fn is_same(a: Answer, b: Answer) -> bool {
-    (a.kind == b.kind)
-        & (a.value == b.value)
-        & (a.at == b.at)
-        & (a.end == b.end)
-        & (a.digits == b.digits)
-}
-
-// The whole number of a number's digits has a line of its own.
-fn with_digits(wanted: Answer, digits: &[u8]) -> Answer {
-    if !line::fits(digits, b"hhhhhhhhhhhhhhhh\n") {
-        return plain(b'?', 0, 0, 0);
+// None if a line is malformed. The whole number of a number's digits has a line of its own.
+fn wanted(file: &mut impl Read) -> Option<Answer> {
+    let mut room = [0u8; LINE];
+    let line = reports::read::line(file, &mut room)?;
+    if !line::fits(line, b"? hh hhh hhh\n") {
+        return None;
     }
-    Answer {
-        kind: wanted.kind,
-        value: wanted.value,
-        at: wanted.at,
-        end: wanted.end,
-        digits: line::number(digits, 0, 16),
+    let answer = Answer {
+        kind: line::byte(line, 0),
+        value: line::number(line, 2, 4),
+        at: line::number(line, 5, 8),
+        end: line::number(line, 9, 12),
+        digits: 0,
+    };
+    if answer.kind != b'N' {
+        return Some(answer);
     }
-}
-
-fn of_line(text: &[u8]) -> Answer {
-    if !line::fits(text, b"? hh hhh hhh\n") {
-        return plain(b'?', 0, 0, 0);
+    let mut room = [0u8; DIGITS_LINE];
+    let line = reports::read::line(file, &mut room)?;
+    if !line::fits(line, b"hhhhhhhhhhhhhhhh\n") {
+        return None;
     }
-    plain(
-        line::byte(text, 0),
-        line::number(text, 2, 4),
-        line::number(text, 5, 8),
-        line::number(text, 9, 12),
-    )
+    Some(Answer {
+        digits: line::number(line, 0, 16),
+        ..answer
+    })
 }
 
 pub(crate) fn read(file: &mut impl Read) -> Answer {
-    let mut buffer = [0u8; LINE];
-    let n = reports::read::some(file, &mut buffer);
-    let wanted = of_line(&buffer[..n]);
-    if wanted.kind != b'N' {
-        return wanted;
-    }
-    let mut digits = [0u8; DIGITS_LINE];
-    let m = reports::read::some(file, &mut digits);
-    with_digits(wanted, &digits[..m])
+    wanted(file).unwrap_or(Answer {
+        kind: b'?',
+        ..Answer::default()
+    })
 }
 
-fn print(rt: &impl Print, label: &[u8], a: Answer) {
-    report::text(rt, label);
-    report::text(rt, &[a.kind]);
-    report::decimal(rt, b" ", a.value);
-    report::decimal(rt, b" ", a.at);
-    report::decimal(rt, b" ", a.end);
-    report::decimal(rt, b" ", a.digits);
+// A kind may be any byte, so it is no character.
+fn print(rt: &impl Print, label: &str, answer: Answer) {
+    let Answer {
+        kind,
+        value,
+        at,
+        end,
+        digits,
+    } = answer;
+    let _ = print!(rt; " {label} ");
+    report::text(rt, &[kind]);
+    let _ = print!(rt; " {value} {at} {end} {digits}");
 }
 
 // Whether the text has at a place what a file expects.
 pub(crate) fn agrees(
-    rt: &impl Print,
-    name: &[u8],
+    case: &Case<'_, impl Print>,
     text: &[u8],
     from: usize,
     wanted: Answer,
 ) -> bool {
     let got = found(text, from);
-    if is_same(got, wanted) {
+    if got == wanted {
         return true;
     }
-    difference::front(rt, name, text, from);
-    print(rt, b" expected ", wanted);
-    print(rt, b" got ", got);
-    report::text(rt, b"\n");
+    difference::front(case, text, from);
+    print(case.rt, "expected", wanted);
+    print(case.rt, "got", got);
+    let _ = println!(case.rt; "");
     false
 }

@@ -2,67 +2,42 @@
 use crate::difference;
 use cases::line;
 use lexer::bytes;
+use reports::case::Case;
 use reports::{read, report};
 use std::io::Read;
 
-fn one_if(b: bool) -> u64 {
-    if b { 1 } else { 0 }
-}
+pub(crate) const FORM: &[u8; 27] = b"hhh hhhhhhhhhhhhhhhh hhh h\n";
 
-// 2 where the two ways to ask disagree.
+// 1 where it stands, and 2 where the two ways to ask disagree.
 fn answer(text: &[u8], at: usize, word: &[u8]) -> u64 {
     let by_word = bytes::has_word(text, at, word);
-    if word.len() != 1 {
-        return one_if(by_word);
-    }
-    let by_byte = bytes::has_byte(text, at, word[0]);
-    if by_word == by_byte {
-        one_if(by_byte)
-    } else {
-        2
+    match word {
+        [byte] if bytes::has_byte(text, at, *byte) != by_word => 2,
+        _ => u64::from(by_word),
     }
 }
 
-fn word_agrees(rt: &impl Print, name: &[u8], head: &[u8], text: &[u8], word: &[u8]) -> bool {
-    let at = line::number(head, 4, 20) as usize;
-    let wanted = line::number(head, 25, 26);
+fn word_agrees(case: &Case<'_, impl Print>, text: &[u8], word: &[u8]) -> bool {
+    let at = line::number(case.line, 4, 20) as usize;
+    let wanted = line::number(case.line, 25, 26);
     let got = answer(text, at, word);
     if got == wanted {
         return true;
     }
-    difference::front(rt, name, text, at);
-    report::text(rt, b" word ");
-    report::text(rt, word);
-    difference::answers(rt, wanted, got);
+    difference::front(case, text, at);
+    let _ = print!(case.rt; " word ");
+    report::text(case.rt, word);
+    let _ = println!(case.rt; " expected {wanted} got {got}");
     false
 }
 
 // The word stands behind the text.
-fn read_word(
-    rt: &impl Print,
-    file: &mut impl Read,
-    name: &[u8],
-    head: &[u8],
-    text: &[u8],
-    word: &mut [u8],
-) -> bool {
-    if read::text(file, word) {
-        return word_agrees(rt, name, head, text, word);
-    }
-    report::malformed(rt, name, head)
-}
-
 pub(crate) fn agrees(
-    rt: &impl Print,
+    case: &Case<'_, impl Print>,
     file: &mut impl Read,
-    name: &[u8],
-    head: &[u8],
     text: &[u8],
-) -> bool {
-    let size = line::number(head, 21, 24) as usize;
-    if size <= read::MOST {
-        let mut room = [0u8; read::MOST];
-        return read_word(rt, file, name, head, text, &mut room[..size]);
-    }
-    report::malformed(rt, name, head)
+) -> Option<bool> {
+    let mut room = [0u8; read::MOST];
+    let word = read::text(file, &mut room, line::number(case.line, 21, 24) as usize)?;
+    Some(word_agrees(case, text, word))
 }

@@ -2,77 +2,54 @@
 use crate::{difference, lexemes};
 use cases::line;
 use lexer::scan;
-use lexer::scan::Verdict;
-use reports::report;
+use reports::case::Case;
 use std::io::Read;
 
+pub(crate) const FORM: &[u8; 14] = b"hhh hhh h hhh\n";
+
 // A refusal's number and place; both 0 for a text that is fine.
-#[derive(Clone, Copy)]
-struct Answer {
-    number: u64,
-    place: u64,
-}
+type Answer = (u64, u64);
 
 fn found(text: &[u8]) -> Answer {
     match scan::scan(text) {
-        Verdict::Fine => Answer {
-            number: 0,
-            place: 0,
-        },
-        Verdict::Refused(refusal) => Answer {
-            number: refusal.number as u64,
-            place: refusal.place as u64,
-        },
+        Ok(()) => (0, 0),
+        Err(refusal) => (u64::from(u8::from(refusal.reason)), refusal.place as u64),
     }
 }
 
-fn verdict_agrees(rt: &impl Print, name: &[u8], text: &[u8], wanted: Answer) -> bool {
+fn verdict_agrees(case: &Case<'_, impl Print>, text: &[u8], wanted: Answer) -> bool {
     let got = found(text);
-    if (got.number == wanted.number) & (got.place == wanted.place) {
+    if got == wanted {
         return true;
     }
-    difference::front(rt, name, text, 0);
-    report::decimal(rt, b" expected refusal ", wanted.number);
-    report::decimal(rt, b" at ", wanted.place);
-    report::decimal(rt, b" got ", got.number);
-    report::decimal(rt, b" at ", got.place);
-    report::text(rt, b"\n");
+    difference::front(case, text, 0);
+    let ((expected, at), (number, place)) = (wanted, got);
+    let _ = println!(case.rt; " expected refusal {expected} at {at} got {number} at {place}");
     false
 }
 
 // All expected tokens are read, also behind one that differs, so that the next case is found.
 fn tokens_agree(
-    rt: &impl Print,
+    case: &Case<'_, impl Print>,
     file: &mut impl Read,
-    name: &[u8],
     text: &[u8],
     count: u64,
 ) -> bool {
     let mut same = true;
-    let mut from: usize = 0;
-    let mut left = count;
-    while 0 < left {
+    let mut from = 0;
+    for _ in 0..count {
         let wanted = lexemes::read(file);
-        if !lexemes::agrees(rt, name, text, from, wanted) {
-            same = false;
-        }
+        same = lexemes::agrees(case, text, from, wanted) & same;
         from = wanted.end as usize;
-        left -= 1;
     }
     same
 }
 
-pub(crate) fn agrees(
-    rt: &impl Print,
-    file: &mut impl Read,
-    name: &[u8],
-    head: &[u8],
-    text: &[u8],
-) -> bool {
-    let tokens = tokens_agree(rt, file, name, text, line::number(head, 4, 7));
-    let wanted = Answer {
-        number: line::number(head, 8, 9),
-        place: line::number(head, 10, 13),
-    };
-    verdict_agrees(rt, name, text, wanted) & tokens
+pub(crate) fn agrees(case: &Case<'_, impl Print>, file: &mut impl Read, text: &[u8]) -> bool {
+    let tokens = tokens_agree(case, file, text, line::number(case.line, 4, 7));
+    let wanted = (
+        line::number(case.line, 8, 9),
+        line::number(case.line, 10, 13),
+    );
+    verdict_agrees(case, text, wanted) & tokens
 }

@@ -5,66 +5,45 @@ ghost use Rattle.std.specs.Float.{binary64};
 ghost use Rattle.number.specs.Arithmetic.{abs_of, sign_of, negative_zero, less, min_of, max_of, clamp_of, mix_of};
 
 use crate::bits::to_bits;
-use crate::choice::pick;
 use crate::units::{SPECIAL, digits, exponent, is_negative, number, place, reduced};
 
 // The sign cleared.
 pub fn abs(x: f64) -> f64
     ensures { result ≡ abs_of x }
 {
-    if x < 0.0 {
-        -x
-    } else if x == 0.0 {
-        0.0
-    } else {
-        x
-    }
+    x.abs()
 }
 
 // -1, +0 or 1 by the sign; NaN for NaN.
 pub fn sign(x: f64) -> f64
     ensures { result ≡ sign_of x }
 {
-    if 0.0 < x {
-        1.0
-    } else if x < 0.0 {
-        -1.0
-    } else if x == 0.0 {
-        0.0
-    } else {
-        x
-    }
+    if x == 0.0 { 0.0 } else { x.signum() }
 }
 
 // Of a zero, 1 / x has its sign.
 fn is_negative_zero(x: f64) -> bool
     ensures { result ≡ negative_zero x }
 {
-    if x == 0.0 { 1.0 / x < 0.0 } else { false }
+    x == 0.0 && 1.0 / x < 0.0
 }
 
 fn is_less(x: f64, y: f64) -> bool
     ensures { result ≡ less x y }
 {
-    if x < y {
-        true
-    } else if x == y {
-        is_negative_zero(x) & !is_negative_zero(y)
-    } else {
-        false
-    }
+    x < y || (x == y && is_negative_zero(x) && !is_negative_zero(y))
 }
 
 // The less of two numbers, -0 below +0; NaN where one is.
 pub fn min(x: f64, y: f64) -> f64
     ensures { result ≡ min_of x y }
 {
-    if x != x {
+    if x.is_nan() {
         x
-    } else if y != y {
+    } else if y.is_nan() || is_less(y, x) {
         y
     } else {
-        pick(is_less(y, x), y, x)
+        x
     }
 }
 
@@ -72,12 +51,12 @@ pub fn min(x: f64, y: f64) -> f64
 pub fn max(x: f64, y: f64) -> f64
     ensures { result ≡ max_of x y }
 {
-    if x != x {
+    if x.is_nan() {
         x
-    } else if y != y {
+    } else if y.is_nan() || is_less(x, y) {
         y
     } else {
-        pick(is_less(x, y), y, x)
+        x
     }
 }
 
@@ -102,14 +81,14 @@ pub fn remainder(x: f64, y: f64) -> f64
     let a = to_bits(x);
     let b = to_bits(y);
     if exponent(a) == SPECIAL {
-        return 0.0 / 0.0;
+        return f64::NAN;
     }
     if exponent(b) == SPECIAL {
-        return if y != y { y } else { x };
+        return if y.is_nan() { y } else { x };
     }
     let n = digits(b);
     if n == 0 {
-        return 0.0 / 0.0;
+        return f64::NAN;
     }
     let i = place(a);
     let j = place(b);

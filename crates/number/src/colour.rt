@@ -10,7 +10,7 @@ pub fn component(x: f64) -> f64
         0.0
     } else if 1.0 < x {
         1.0
-    } else if x != x {
+    } else if x.is_nan() {
         0.0
     } else {
         x

@@ -1,12 +1,11 @@
 // Decimal text, and the binary64 that it stands for.
-ghost use Rattle.std.specs.Prelude.{◌≡◌, ◌-◌, drop};
-ghost use Rattle.number.specs.Decimal.{is_digit, read_at, ten_to, value_of};
-ghost use Rattle.number.specs.Inner.{pushed, digits_from, whole_from, fraction_from};
+ghost use Rattle.std.specs.Prelude.{◌≡◌, drop};
+ghost use Rattle.number.specs.Decimal.{is_digit, digits, whole_part, fraction, read_at, ten_to, value_of};
+ghost use Rattle.number.specs.Inner.{pushed, gathered};
 
-use crate::choice::with_sign;
-
-// What stands at a place in a text.
-#[derive(Drop)]
+// What stands at a place in a text. Each of the three has its own next step: where no number stands, another
+// token may; a number that is too long is refused.
+#[derive(Clone, Copy, Debug, PartialEq, Eq)]
 pub enum Decimal {
     Nothing,
     // The number ends before `end`. `digits` is the whole number of its digits, of which `places`
@@ -15,10 +14,10 @@ pub enum Decimal {
     TooLong { end: usize },
 }
 
-// Digits read up to `end`, and their whole number.
-#[derive(Drop)]
+// How many digits were read, and the whole number of them and those before.
+#[derive(Clone, Copy, Debug, PartialEq, Eq)]
 struct Digits {
-    end: usize,
+    count: usize,
     value: u64,
 }
 
@@ -31,97 +30,84 @@ const ROOM_FOR_DIGIT: u64 = 100_000_000_000_000;
 pub fn is_digit(b: u8) -> bool
     ensures { result ≡ is_digit b }
 {
-    (b'0' <= b) & (b <= b'9')
+    b.is_ascii_digit()
 }
 
-fn wide(b: u8) -> u64
-    ensures { result ≡ b }
+// What stands from a place on, nothing past the end.
+pub fn rest(text: &[u8], at: usize) -> &[u8]
+    ensures { result.now ≡ drop at text.now }
 {
-    b as u64
+    text.get(at..).unwrap_or_default()
 }
 
 // One digit more. A number of over 15 digits is refused, so its value need not grow.
 fn push(value: u64, b: u8) -> u64
     ensures { result ≡ pushed value b }
 {
-    if value < ROOM_FOR_DIGIT {
-        if b'0' <= b {
-            return 10 * value + wide(b - b'0');
-        }
+    if value < ROOM_FOR_DIGIT && b'0' <= b {
+        10 * value + u64::from(b - b'0')
+    } else {
+        value
     }
-    value
 }
 
-fn digits_from(text: &[u8], at: usize, value: u64) -> Digits
-    ensures { result ≡ digits_from (drop at text.now) at value }
+// The digits that a text begins with, after those of a number.
+fn leading_digits(text: &[u8], value: u64) -> Digits
+    ensures { result ≡ gathered value (digits text.now) }
 {
-    let mut end = at;
-    let mut total = value;
-    while end < text.len() {
-        let b = text[end];
-        if !is_digit(b) {
-            return Digits { end, value: total };
+    let mut read = Digits { count: 0, value };
+    for b in text {
+        if !is_digit(*b) {
+            return read;
         }
-        total = push(total, b);
-        end += 1;
+        read = Digits {
+            count: read.count + 1,
+            value: push(read.value, *b),
+        };
     }
-    Digits { end, value: total }
+    read
 }
 
-fn whole_from(text: &[u8], at: usize) -> Digits
-    ensures { result ≡ whole_from (drop at text.now) at }
+fn whole_part(text: &[u8]) -> Digits
+    ensures { result ≡ gathered 0 (whole_part text.now) }
 {
-    if at < text.len() {
-        if text[at] == b'0' {
-            return Digits {
-                end: at + 1,
-                value: 0,
-            };
-        }
+    if text.starts_with(b"0") {
+        Digits { count: 1, value: 0 }
+    } else {
+        leading_digits(text, 0)
     }
-    digits_from(text, at, 0)
 }
 
-fn fraction_from(text: &[u8], at: usize, value: u64) -> Digits
-    ensures { result ≡ fraction_from (drop at text.now) at value }
+// The digits after a point, none where there is no point, after those of a number.
+fn fraction(text: &[u8], value: u64) -> Digits
+    ensures { result ≡ gathered value (fraction text.now) }
 {
-    if at < text.len() {
-        if text[at] == b'.' {
-            let first = at + 1;
-            let d = digits_from(text, first, value);
-            let end = d.end;
-            if first < end {
-                return d;
-            }
-        }
+    match text {
+        [b'.', after @ ..] => leading_digits(after, value),
+        _ => Digits { count: 0, value },
     }
-    Digits { end: at, value }
-}
-
-// How many digits stand between a point and an end; none where there is no point.
-fn places_between(point: usize, end: usize) -> usize
-    ensures { result ≡ end - point - 1 }
-{
-    if point < end { end - point - 1 } else { 0 }
 }
 
 // The longest number at a place.
 pub fn read(text: &[u8], at: usize) -> Decimal
     ensures { result ≡ read_at text.now at }
 {
-    let whole = whole_from(text, at);
-    let point = whole.end;
-    if point <= at {
+    let whole = whole_part(rest(text, at));
+    if whole.count == 0 {
         return Decimal::Nothing;
     }
-    let all = fraction_from(text, point, whole.value);
-    let end = all.end;
-    let places = places_between(point, end);
-    if point - at + places <= MOST_DIGITS {
+    let point = at + whole.count;
+    let all = fraction(rest(text, point), whole.value);
+    let end = if all.count == 0 {
+        point
+    } else {
+        point + 1 + all.count
+    };
+    if whole.count + all.count <= MOST_DIGITS {
         Decimal::Number {
             end,
             digits: all.value,
-            places: places as u8,
+            places: all.count as u8,
         }
     } else {
         Decimal::TooLong { end }
@@ -132,10 +118,8 @@ fn ten_to(k: u8) -> f64
     ensures { result ≡ ten_to k }
 {
     let mut power = 1.0;
-    let mut i: u8 = 0;
-    while i < k {
-        power = power * 10.0;
-        i += 1;
+    for _ in 0..k {
+        power *= 10.0;
     }
     power
 }
@@ -145,5 +129,5 @@ pub fn value(negative: bool, digits: u64, places: u8) -> f64
     ensures { result ≡ value_of negative digits places }
 {
     let quotient = std::num::nearest_u64_to_f64(digits) / ten_to(places);
-    with_sign(negative, quotient)
+    if negative { -quotient } else { quotient }
 }

@@ -5,7 +5,6 @@
 
 pub mod arithmetic;
 pub mod bits;
-mod choice;
 pub mod colour;
 pub mod decimal;
 pub mod rounding;

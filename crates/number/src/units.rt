@@ -6,7 +6,6 @@ ghost use Rattle.std.specs.Float.Ieee.{round};
 ghost use Rattle.number.specs.Units.{exponent_field, digits_of, HasUnits};
 
 use crate::bits::from_bits;
-use crate::choice::with_sign;
 
 const SIGN: u64 = 0x8000_0000_0000_0000;
 
@@ -67,11 +66,7 @@ fn power(k: u64) -> u64
     requires { k < 53 }
     ensures { result ≡ 2 ^ k }
 {
-    let mut p = 1;
-    for _ in 0..k {
-        p *= 2;
-    }
-    p
+    1 << k
 }
 
 // Two to a place, in units of the smallest number.
@@ -92,5 +87,6 @@ pub(crate) fn number(negative: bool, digits: u64, place: u64) -> f64
     requires place { place < 2046 }
     ensures { result ≡ round binary64 negative (digits * 2 ^ place) (2 ^ 1074) }
 {
-    digits as f64 * with_sign(negative, unit(place))
+    let size = digits as f64 * unit(place);
+    if negative { -size } else { size }
 }

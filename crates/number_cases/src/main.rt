@@ -5,89 +5,41 @@
 mod literals;
 mod numbers;
 
-use cases::tally;
-use cases::tally::{Outcome, Tally, compared, sum};
-use numbers::Function;
-use reports::{read, report};
-use std::fs::File;
-use std::io::Read;
-use std::rt::Files;
+use cases::line;
+use number::bits::{from_bits, to_bits};
+use number::{arithmetic, colour, decimal, rounding};
+use reports::{count, report};
 
-fn next_number(rt: &impl Print, file: &mut impl Read, name: &[u8], f: Function) -> Outcome {
-    let mut buffer = [0u8; numbers::LINE];
-    let n = read::some(file, &mut buffer);
-    if n == 0 {
-        return Outcome::End;
-    }
-    compared(numbers::is_right(rt, name, f, &buffer[..n]))
+const LITERALS: &str = "literals";
+
+// The byte of the component that a number is held to.
+fn byte(pattern: u64) -> u64 {
+    u64::from(colour::byte(colour::component(from_bits(pattern))))
 }
 
-fn next_literal(rt: &impl Print, file: &mut impl Read, name: &[u8]) -> Outcome {
-    let mut buffer = [0u8; literals::LINE];
-    let n = read::some(file, &mut buffer);
-    if n == 0 {
-        return Outcome::End;
-    }
-    compared(literals::is_right(rt, name, &buffer[..n]))
+fn value(negative: u64, digits: u64, places: u64) -> u64 {
+    to_bits(decimal::value(negative == 1, digits, line::low_byte(places)))
 }
 
-fn next(rt: &impl Print, file: &mut impl Read, name: &[u8], f: Function) -> Outcome {
-    if let Function::Read = f {
-        next_literal(rt, file, name)
-    } else {
-        next_number(rt, file, name, f)
-    }
-}
-
-fn count_cases(rt: &impl Print, file: &mut impl Read, name: &[u8], f: Function) -> Tally {
-    let mut t = tally::NONE;
-    for _ in 0..tally::MOST_CASES {
-        let o = next(rt, file, name, f);
-        if let Outcome::End = o {
-            return t;
-        }
-        t = tally::with(t, o);
-    }
-    t
-}
-
-fn run(rt: &(impl Files + Print), path: &str, f: Function) -> Tally {
-    let name = path.as_bytes();
-    match File::open(rt, path) {
-        Ok(mut file) => {
-            let t = count_cases(rt, &mut file, name, f);
-            report::counts(rt, name, t)
-        }
-        Err(_) => report::missing(rt, name),
-    }
-}
-
-fn roundings(rt: &(impl Files + Print)) -> Tally {
-    let mut t = run(rt, "floor", Function::Floor);
-    t = sum(t, run(rt, "ceil", Function::Ceil));
-    t = sum(t, run(rt, "round", Function::Round));
-    sum(t, run(rt, "fract", Function::Fract))
-}
-
-fn arithmetic(rt: &(impl Files + Print)) -> Tally {
-    let mut t = run(rt, "abs", Function::Abs);
-    t = sum(t, run(rt, "sign", Function::Sign));
-    t = sum(t, run(rt, "min", Function::Min));
-    t = sum(t, run(rt, "max", Function::Max));
-    t = sum(t, run(rt, "clamp", Function::Clamp));
-    t = sum(t, run(rt, "mix", Function::Mix));
-    sum(t, run(rt, "remainder", Function::Remainder))
-}
-
-fn others(rt: &(impl Files + Print)) -> Tally {
-    let mut t = run(rt, "component", Function::Component);
-    t = sum(t, run(rt, "byte", Function::Byte));
-    t = sum(t, run(rt, "bits", Function::Bits));
-    t = sum(t, run(rt, "value", Function::Value));
-    sum(t, run(rt, "literals", Function::Read))
-}
-
+// A pattern of the file bits is only read and stored again, and stays as it is.
 fn main(rt: HostRuntime) {
-    let t = sum(sum(roundings(&rt), arithmetic(&rt)), others(&rt));
-    report::counts(&rt, b"total", t);
+    let total = numbers::file(&rt, "floor", |x, _, _| rounding::floor(x))
+        + numbers::file(&rt, "ceil", |x, _, _| rounding::ceil(x))
+        + numbers::file(&rt, "round", |x, _, _| rounding::round(x))
+        + numbers::file(&rt, "fract", |x, _, _| rounding::fract(x))
+        + numbers::file(&rt, "abs", |x, _, _| arithmetic::abs(x))
+        + numbers::file(&rt, "sign", |x, _, _| arithmetic::sign(x))
+        + numbers::file(&rt, "min", |x, y, _| arithmetic::min(x, y))
+        + numbers::file(&rt, "max", |x, y, _| arithmetic::max(x, y))
+        + numbers::file(&rt, "clamp", arithmetic::clamp)
+        + numbers::file(&rt, "mix", arithmetic::mix)
+        + numbers::file(&rt, "remainder", |x, y, _| arithmetic::remainder(x, y))
+        + numbers::file(&rt, "component", |x, _, _| colour::component(x))
+        + numbers::column_file(&rt, "byte", |x, _, _| byte(x))
+        + numbers::file(&rt, "bits", |x, _, _| x)
+        + numbers::column_file(&rt, "value", value)
+        + count::file(&rt, LITERALS, |mut file| {
+            count::all(|| literals::next(&rt, &mut file, LITERALS))
+        });
+    report::counts(&rt, "total", total);
 }

@@ -1,9 +1,9 @@
 -- Lines of the sample on page 01, "Checked examples".
+use Rattle.std.specs.Prelude.{None}
 use mathlib.Core.Path.{◌≡◌, refl}
 use mathlib.Core.Bool.{true}
 use mathlib.Core.List.{[], ◌∷◌, ◌++◌}
 use Rattle.lexer.specs.Bytes.{ascii}
-use Rattle.colour.specs.declared.colour.Colouring.TheVariants.{None}
 use Rattle.output.specs.Line.{digits_of, painted_line, refused_feature}
 
 -- `3→refused→9→5`; a tab is 9 and LF is 10

@@ -1,4 +1,5 @@
 -- How long the lines of the output are.
+use Rattle.std.specs.Prelude.{Option, Some, None}
 use mathlib.Core.Path.{◌≡◌, refl}
 use mathlib.Core.Bool.{Bool, true, false}
 use mathlib.Core.List.{[], ◌∷◌}
@@ -7,10 +8,12 @@ use native.Mathlib.Omega.{arith}
 use borrow.Author.Tests.{ltb-true, ltb-false}
 use lib.Dec.{ltb}
 use lib.ListN.{length, length-append}
-use Rattle.colour.specs.declared.colour.Colouring.{Colouring}
-use Rattle.colour.specs.declared.colour.Colouring.TheVariants.{None, Of}
 use Rattle.output.proofs.Law.Lines.{last-digit, digit-more}
 use Rattle.output.specs.Line.{decimal_digit, digits_of, decimal, colour_text, colouring_text, truth_text, painted_line, refused_feature, refused_head, longest_line}
+use Rattle.output.specs.Inner.{line_text}
+use Rattle.output.specs.declared.line.Line.{Line}
+use Rattle.output.specs.declared.line.Line.TheVariants.{Painted, RefusedFeature, RefusedHead}
+use Rattle.colour.specs.declared.colour.Colour.{Colour}
 
 -- ---- numbers
 
@@ -42,14 +45,14 @@ truth-fits : (t : Bool) → length (truth_text t) ≤ 5
 truth-fits true = omega arith
 truth-fits false = omega arith
 
-colouring-fits : (c : Colouring) → length (colouring_text c) ≤ 9
+colouring-fits : (c : Option Colour) → length (colouring_text c) ≤ 9
 unfolding colour_text
 colouring-fits None = omega arith
-colouring-fits (Of c) = omega arith
+colouring-fits (Some c) = omega arith
 
 -- ---- lines
 
-pub painted-length : (number : ℕ) (show : Bool) (c : Colouring) → length (painted_line number show c) ≡ length (decimal number) + (suc (length (truth_text show)) + (suc (length (colouring_text c)) + 1))
+pub painted-length : (number : ℕ) (show : Bool) (c : Option Colour) → length (painted_line number show c) ≡ length (decimal number) + (suc (length (truth_text show)) + (suc (length (colouring_text c)) + 1))
 unfolding painted_line
 painted-length number show c = simp length-append
 
@@ -61,13 +64,13 @@ pub refused-head-length : (number line place : ℕ) → length (refused_head num
 unfolding refused_head
 refused-head-length number line place = simp length-append (omega arith)
 
-pub painted-fits : (number : ℕ) (show : Bool) (c : Colouring) → number ≤ 999999 → length (painted_line number show c) ≤ 32
+pub painted-fits : (number : ℕ) (show : Bool) (c : Option Colour) → number ≤ 999999 → length (painted_line number show c) ≤ 32
 painted-fits number show c h =
     omega (arith, painted-length number show c, digits-few 5 20 number (omega arith), truth-fits show, colouring-fits c)
 
 -- ---- the longest line
 
-pub painted-page : (number : ℕ) (show : Bool) (c : Colouring) → length (painted_line number show c) ≤ longest_line
+pub painted-page : (number : ℕ) (show : Bool) (c : Option Colour) → length (painted_line number show c) ≤ longest_line
 painted-page number show c = omega (arith, painted-length number show c, digits-fit 20 number, truth-fits show, colouring-fits c)
 
 pub refused-feature-page : (feature number place : ℕ) → length (refused_feature feature number place) ≤ longest_line
@@ -77,3 +80,8 @@ refused-feature-page feature number place =
 pub refused-head-page : (number line place : ℕ) → length (refused_head number line place) ≤ longest_line
 refused-head-page number line place =
     omega (arith, refused-head-length number line place, digits-fit 20 number, digits-fit 20 line, digits-fit 20 place)
+
+pub line-page : (l : Line) → length (line_text l) ≤ longest_line
+line-page (Painted number show colouring) = painted-page number show colouring
+line-page (RefusedFeature feature number place) = refused-feature-page feature number place
+line-page (RefusedHead number line place) = refused-head-page number line place

@@ -1,10 +1,8 @@
 -- Lines of the output: page 01, "Checked examples" (the sample of the program `ledger`, whose lines these are, and what stands below it).
-use Rattle.std.specs.Prelude.{Bool, true, false, cond, List, [], ◌∷◌, ◌++◌, ℕ, zero, suc, ◌+◌, ◌/◌, ◌%◌, leb, ltb, length, drop}
+use Rattle.std.specs.Prelude.{Bool, true, false, cond, List, [], ◌∷◌, ◌++◌, ℕ, zero, suc, ◌+◌, ◌/◌, ◌%◌, leb, ltb, length, drop, Option, Some, None}
 use Rattle.lexer.specs.Bytes.{ascii}
 use Rattle.colour.specs.Colour.{bytes_of}
 use Rattle.colour.specs.declared.colour.Colour.{Colour}
-use Rattle.colour.specs.declared.colour.Colouring.{Colouring}
-use Rattle.colour.specs.declared.colour.Colouring.TheVariants.{None, Of}
 
 -- "an accepted one writes its line at the front and touches no byte after it": the line and its length; one that doesn't fit is left out,
 -- with the length 0
@@ -42,9 +40,9 @@ colour_text c =
     35 ∷ (hex_byte b.red ++ (hex_byte b.green ++ (hex_byte b.blue ++ hex_byte b.alpha)))
 
 -- "No colour prints `undefined`."
-abbrev pub colouring_text : Colouring → List ℕ
+abbrev pub colouring_text : Option Colour → List ℕ
 colouring_text None = ascii "undefined"
-colouring_text (Of c) = colour_text c
+colouring_text (Some c) = colour_text c
 
 abbrev pub truth_text : Bool → List ℕ
 truth_text true = ascii "true"
@@ -65,7 +63,7 @@ unfoldable pub heading : List ℕ
 heading = ascii "strip" ++ (field_of (ascii "show") ++ (field_of (ascii "colour") ++ ending))
 
 -- `1→true→#00FF0080`
-unfoldable pub painted_line : ℕ → Bool → Colouring → List ℕ
+unfoldable pub painted_line : ℕ → Bool → Option Colour → List ℕ
 painted_line number show colouring = decimal number ++ (field_of (truth_text show) ++ (field_of (colouring_text colouring) ++ ending))
 
 -- `3→refused→9→5`

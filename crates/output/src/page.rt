@@ -1,38 +1,49 @@
-// Bytes that are written one behind the other into room that is lent. Each function gives the place
-// where the next byte goes. What does not fit is left out, so a page that is full may lack some.
+// Bytes that are written one behind the other into room that is lent. What does not fit is left out,
+// so a page that is full may lack some.
 ghost use Rattle.std.specs.Prelude.{◌≡◌, ◌∷◌, []};
 ghost use Rattle.std.proofs.Math.Seq.{slice};
-ghost use Rattle.output.specs.Page.{written};
+ghost use Rattle.output.specs.Page.{written, Writes};
 
-pub fn byte(page: &mut [u8], at: usize, b: u8) -> usize
-    ensures { (page.new, result) ≡ written (page.old, at) (b ∷ []) }
-{
-    if at < page.len() {
-        page[at] = b;
-        return at + 1;
-    }
-    at
+#[derive(Drop)]
+pub struct Page<'a> {
+    pub room: &'a mut [u8],
+    // Where the next byte goes.
+    pub end: usize,
 }
 
-// Those of a text from one place up to another, as far as the text goes.
-pub fn part(page: &mut [u8], at: usize, text: &[u8], from: usize, to: usize) -> usize
-    ensures { (page.new, result) ≡ written (page.old, at) (slice from to text.now) }
-{
-    let mut end = at;
-    let mut i = from;
-    while i < text.len() {
-        if to <= i {
-            return end;
+impl Page<'_> {
+    pub fn byte(&mut self, b: u8)
+        ensures { Writes self.old (b ∷ []) self.new }
+    {
+        if self.end < self.room.len() {
+            self.room[self.end] = b;
+            self.end += 1;
         }
-        end = byte(page, end, text[i]);
-        i += 1;
     }
-    end
+
+    // Those of a text from one place up to another, as far as the text goes.
+    pub fn part(&mut self, text: &[u8], from: usize, to: usize)
+        ensures { Writes self.old (slice from to text.now) self.new }
+    {
+        let end = to.min(text.len());
+        self.text(&text[from.min(end)..end]);
+    }
+
+    pub fn text(&mut self, bytes: &[u8])
+        ensures { Writes self.old bytes.now self.new }
+    {
+        self.end = text(self.room, self.end, bytes);
+    }
 }
 
-// All of a text.
+// A text at a place: where it ends.
 pub fn text(page: &mut [u8], at: usize, text: &[u8]) -> usize
     ensures { (page.new, result) ≡ written (page.old, at) text.now }
 {
-    part(page, at, text, 0, text.len())
+    if page.len() <= at {
+        return at;
+    }
+    let count = text.len().min(page.len() - at);
+    page[at..at + count].copy_from_slice(&text[..count]);
+    at + count
 }

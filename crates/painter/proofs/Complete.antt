@@ -10,6 +10,7 @@ use lib.Dec.{T}
 use lib.ListN.{length}
 use Rattle.lexer.specs.Bytes.{same}
 use Rattle.lexer.specs.Refusal.{fine, refusal_at}
+use Rattle.lexer.specs.declared.refusal.Reason.TheVariants as reason
 use Rattle.kind.specs.declared.set.Kinds.{Kinds}
 use Rattle.value.specs.Value.{text_in}
 use Rattle.value.specs.declared.value.Value.{Value}
@@ -139,7 +140,7 @@ module _ (items : List Item) (stand : Stand empty items) (n : ℕ) (s : Style) (
   values = chosen_from 5 (worst_of s.properties whole.declared)
 
   -- It is refused with 7, and its item with it, exactly if some feature that reads as values makes it fail by itself.
-  pub refused-exactly : ((p : ℕ) × RefusedAs items n (refusal_at 7 p) s c want text) ↔ SomeLineFails s want text tree
+  pub refused-exactly : ((p : ℕ) × RefusedAs items n (refusal_at reason.Kinds p) s c want text) ↔ SomeLineFails s want text tree
   refused-exactly =
       let by-tree = seven-exactly (kinds_in c s) want text tree judged in (
         (λ r. record {

@@ -1,7 +1,7 @@
 -- The three demands (docs/PROMISES.md), as specs/Demand.antt says them.
 use mathlib.Core.Path.{ap}
 use Rattle.style.specs.Answer.{Answer}
-use Rattle.painter.specs.Paint.{Written, out_after}
+use Rattle.painter.specs.Paint.{out_after}
 use Rattle.painter.specs.Demand.{Answered, RefusedByTable, BufferKept, PaintAgrees, FourPlaced, SevenPlaced}
 use Rattle.painter.specs.Demand.{PaintedAsMeant, NoColour, PaintedOnly, NothingFails, RefusedExactly}
 use Rattle.painter.specs.Demand.{GivenAsMeant, AppliedAsPainted, PrintedAsPainted, by-head}
@@ -12,6 +12,7 @@ use Rattle.painter.proofs.Sound.{reading-sound}
 use Rattle.painter.proofs.Placed as placed
 use Rattle.painter.proofs.Printed.{printed-compiled}
 use Rattle.painter.proofs.Law.Calls.{compiled-given, compiled-applies}
+use Rattle.painter.specs.declared.answer.Painted.{Painted}
 
 -- ---- 1: a call is refused exactly when the table says so
 
@@ -22,7 +23,7 @@ pub refused-by-table : RefusedByTable
 refused-by-table = (check-refused, paint-refused)
 
 pub buffer-kept : BufferKept
-buffer-kept slots head number feature out n r e = ap (λ (a : Answer Written). out_after a number out) e
+buffer-kept slots head number feature out n r e = ap (λ (a : Answer Painted). out_after a number out) e
 
 pub paint-agrees : PaintAgrees
 paint-agrees bytes slots head number feature n r enough e =

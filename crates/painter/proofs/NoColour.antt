@@ -1,4 +1,5 @@
 -- When a feature has no colour.
+use Rattle.std.specs.Prelude.{Option, Some, None}
 use mathlib.Core.Path.{◌≡◌, refl, sym, ap}
 use mathlib.Core.Bool.{Bool, true, false, cond, false≢true}
 use mathlib.Core.List.{List, [], ◌∷◌}
@@ -9,20 +10,18 @@ use lib.ListN.{length}
 use Rattle.colour.specs.declared.colour.Colour.{Colour}
 use Rattle.value.specs.declared.value.Value.{Value}
 use Rattle.style.specs.Style.{Condition}
-use Rattle.colour.specs.declared.colour.Colouring.{Colouring}
-use Rattle.colour.specs.declared.colour.Colouring.TheVariants.{None, Of}
 use Rattle.style.proofs.Accepted.{accepted-whole}
 use Rattle.painter.specs.Given.{is_true, colour_by, conditioned_by, coloured_by, NoneTrue}
 use Rattle.painter.specs.Meaning.{value_of, given_of}
 use Rattle.painter.specs.Demand.{Reading}
 use Rattle.painter.proofs.Order.{style-given}
 
-abbrev is_none : Colouring → Bool
+abbrev is_none : Option Colour → Bool
 is_none None = true
-is_none (Of c) = false
+is_none (Some c) = false
 
 module _ {E : Type 0} (value : E → Value) where
-  some-colour : (c : Colour) → {A : Type 0} → Of c ≡ None → A
+  some-colour : (c : Colour) → {A : Type 0} → Some c ≡ None → A
   some-colour c e = absurd (false≢true (ap is_none e))
 
   conditioned : (cs : List (Condition E)) → (conditioned_by value cs ≡ None) ↔ NoneTrue value cs

@@ -9,8 +9,9 @@ use native.Mathlib.Omega.{arith}
 use borrow.Author.Tests.{lt-ltb, le-ltb, ltb-true, ltb-false}
 use lib.Dec.{ltb}
 use lib.ListN.{length, length-take}
-use Rattle.lexer.specs.Refusal.{Judged, refused, fine, refusal_at, on_fine}
+use Rattle.lexer.specs.Refusal.{reason_number, Judged, refused, fine, refusal_at, on_fine}
 use Rattle.lexer.specs.declared.refusal.Refusal.{Refusal}
+use Rattle.lexer.specs.declared.refusal.Reason.TheVariants as reason
 use Rattle.lexer.proofs.Law.Runs.{by-test}
 use Rattle.kind.specs.declared.set.Kinds.{Kinds}
 use Rattle.value.specs.declared.value.Value.{Value}
@@ -25,10 +26,11 @@ use Rattle.style.proofs.Law.Ladder.{taken, passed}
 use Rattle.style.proofs.Law.Answers.{is_fine, refusal_in, is_accepted}
 use Rattle.feature.specs.Feature.{Values, complete, broken, entered_of, all_conform, feature_size, most_features}
 use Rattle.feature.proofs.Conforming.{by-line}
-use Rattle.painter.specs.Paint.{Written, on_values, schema_of, written_for, featured, least_bytes, short_buffer, painted_of}
+use Rattle.painter.specs.Paint.{on_values, schema_of, written_for, featured, least_bytes, short_buffer, painted_of}
 use Rattle.painter.specs.Meaning.{given_of}
 use Rattle.painter.specs.Demand.{HeadRefused, CallRefused, CheckRefused, PaintRefused, Answered, Neither, ConformsTo, ReadsAs, Reading, Conforming}
 use Rattle.painter.specs.Demand as table
+use Rattle.painter.specs.declared.answer.Painted.{Painted}
 
 -- ---- what is accepted
 
@@ -98,7 +100,7 @@ module _ (slots : ℕ) (head : List ℕ) where
 -- ---- a call, by the table
 
 module _ (bytes slots : ℕ) (head : List ℕ) (number : ℕ) (feature : List ℕ) where
-  abbrev Table : Answer Written → Type 0
+  abbrev Table : Answer Painted → Type 0
   Table (refusal n r) = CallRefused bytes slots head number feature n r
   Table (accepted w) = Unit {0}
 
@@ -136,11 +138,11 @@ module _ (bytes slots : ℕ) (head : List ℕ) (number : ℕ) (feature : List �
       go : (j : Judged Values) → on_fine j all_conform ≡ refused r →
           on_accepted (on_values number j (given_of s feature)) (λ given. accepted (written_for number given)) ≡ refusal number r
       go (refused q) f = ap (λ j. refusal number (refusal_in q j)) f
-      go (fine (broken vs p)) f = ap (λ j. refusal number (refusal_in (refusal_at 9 p) j)) f
+      go (fine (broken vs p)) f = ap (λ j. refusal number (refusal_in (refusal_at reason.Feature p) j)) f
       go (fine (complete vs)) f = absurd (false≢true (sym (ap is_fine f)))
 
   -- what is painted reads as values under the style of the head
-  pub paint-accepted : (w : Written) → painted_of bytes slots head number feature ≡ accepted w → Reading slots head number feature
+  pub paint-accepted : (w : Painted) → painted_of bytes slots head number feature ≡ accepted w → Reading slots head number feature
   unfolding painted_of
   paint-accepted w = by-buffer (ltb bytes least_bytes)
     where
@@ -151,7 +153,7 @@ module _ (bytes slots : ℕ) (head : List ℕ) (number : ℕ) (feature : List �
       reads s (fine (broken vs p)) e = absurd (false≢true (ap is_accepted e))
       reads s (fine (complete vs)) e = (vs, refl)
 
-      by-buffer : (t : Bool) → ◌≡◌ {A = Answer Written} (cond t short_buffer (on_accepted (style_of slots head) (λ s. featured s number feature))) (accepted w) →
+      by-buffer : (t : Bool) → ◌≡◌ {A = Answer Painted} (cond t short_buffer (on_accepted (style_of slots head) (λ s. featured s number feature))) (accepted w) →
           Reading slots head number feature
       by-buffer true e = absurd (false≢true (ap is_accepted e))
       by-buffer false e =
@@ -176,18 +178,18 @@ paint-refused bytes slots head number feature n r = (
 pub answered : Answered
 answered bytes slots head number feature = go (painted_of bytes slots head number feature) refl
   where
-    go : (a : Answer Written) → painted_of bytes slots head number feature ≡ a →
+    go : (a : Answer Painted) → painted_of bytes slots head number feature ≡ a →
         ((n : ℕ) × (r : Refusal) × CallRefused bytes slots head number feature n r)
-        ⊎ ((w : Written) × (painted_of bytes slots head number feature ≡ accepted w))
+        ⊎ ((w : Painted) × (painted_of bytes slots head number feature ≡ accepted w))
     go (refusal n r) e = inl (n, r, (paint-refused bytes slots head number feature n r).0 e)
     go (accepted w) e = inr (w, e)
 
 -- a refusal of another number than 10, 1 and 8 is one of an expression, behind 10 and the head's size
-pub of-expression : (slots : ℕ) (head : List ℕ) (n : ℕ) (r : Refusal) → (r.number ≡ 10 → ⊥) → (r.number ≡ 1 → ⊥) → (r.number ≡ 8 → ⊥) →
+pub of-expression : (slots : ℕ) (head : List ℕ) (n : ℕ) (r : Refusal) → (reason_number r.reason ≡ 10 → ⊥) → (reason_number r.reason ≡ 1 → ⊥) → (reason_number r.reason ≡ 8 → ⊥) →
     checked_of slots head ≡ refusal n r → (room_size ≤ slots) × (length head ≤ head_size) × LineOrigin head n r
 of-expression slots head n r a b c e = go a b c ((check-refused slots head n r).0 e)
   where
-    go : {n : ℕ} {r : Refusal} → (r.number ≡ 10 → ⊥) → (r.number ≡ 1 → ⊥) → (r.number ≡ 8 → ⊥) → HeadRefused slots head n r →
+    go : {n : ℕ} {r : Refusal} → (reason_number r.reason ≡ 10 → ⊥) → (reason_number r.reason ≡ 1 → ⊥) → (reason_number r.reason ≡ 8 → ⊥) → HeadRefused slots head n r →
         (room_size ≤ slots) × (length head ≤ head_size) × LineOrigin head n r
     go a b c (table.by-room h) = absurd (a refl)
     go a b c (table.by-size enough h) = absurd (b refl)
@@ -198,8 +200,8 @@ of-expression slots head n r a b c e = go a b c ((check-refused slots head n r).
 
 -- the numbers of its refusals
 data OneOrNine : Judged Values → Type 0 where
-  one : (p : ℕ) → OneOrNine (refused (refusal_at 1 p))
-  nine : (p : ℕ) → OneOrNine (refused (refusal_at 9 p))
+  one : (p : ℕ) → OneOrNine (refused (refusal_at reason.Size p))
+  nine : (p : ℕ) → OneOrNine (refused (refusal_at reason.Feature p))
   neither : (vs : Values) → OneOrNine (fine vs)
 
 refused-numbers : (sets : List Kinds) (number : ℕ) (text : List ℕ) → OneOrNine (entered_of sets number text)

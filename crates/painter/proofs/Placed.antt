@@ -6,6 +6,7 @@ use Prim.Native.Nat.{ℕ, ◌≤◌}
 use native.Mathlib.Omega.{arith}
 use lib.ListN.{length, take}
 use Rattle.lexer.specs.Refusal.{fine, refusal_at}
+use Rattle.lexer.specs.declared.refusal.Reason.TheVariants as reason
 use Rattle.tree.specs.Tree.{Tree}
 use Rattle.syntax.specs.Judge.{judged_of}
 use Rattle.syntax.proofs.Grammar.Judged.{judged-four}
@@ -25,14 +26,14 @@ use Rattle.painter.proofs.Complete.{refused-exactly}
 
 pub four-placed : FourPlaced
 four-placed slots head n p e =
-    let (_, _, o) = of-expression slots head n (refusal_at 4 p) (λ h. omega arith) (λ h. omega arith) (λ h. omega arith) e in
+    let (_, _, o) = of-expression slots head n (refusal_at reason.Grammar p) (λ h. omega arith) (λ h. omega arith) (λ h. omega arith) e in
     let x = o.origin in
     let (ts, scanned, at) = (judged-four x.text p).0 (four-judged (kinds_in x.scope x.style) x.want x.text p x.is.refused) in
     (o, ts, scanned, at)
 
-seven-of : (slots : ℕ) (head : List ℕ) (n p : ℕ) → checked_of slots head ≡ refusal n (refusal_at 7 p) →
-    (room_size ≤ slots) × (length head ≤ head_size) × LineOrigin head n (refusal_at 7 p)
-seven-of slots head n p e = of-expression slots head n (refusal_at 7 p) (λ h. omega arith) (λ h. omega arith) (λ h. omega arith) e
+seven-of : (slots : ℕ) (head : List ℕ) (n p : ℕ) → checked_of slots head ≡ refusal n (refusal_at reason.Kinds p) →
+    (room_size ≤ slots) × (length head ≤ head_size) × LineOrigin head n (refusal_at reason.Kinds p)
+seven-of slots head n p e = of-expression slots head n (refusal_at reason.Kinds p) (λ h. omega arith) (λ h. omega arith) (λ h. omega arith) e
 
 pub seven-placed : SevenPlaced
 seven-placed slots head n p e =
@@ -47,7 +48,7 @@ seven-placed slots head n p e =
 -- style's properties makes it fail by itself.
 pub seven-in-items : (items : List Item) → Stand empty items → (n : ℕ) (s : Style) (c : Scope) (want : Wanted) (text : List ℕ) →
     Reached items n s c want text → (tree : Tree) → judged_of text ≡ fine tree → IsPlain c s text tree →
-    ((p : ℕ) × RefusedAs items n (refusal_at 7 p) s c want text) ↔ SomeLineFails s want text tree
+    ((p : ℕ) × RefusedAs items n (refusal_at reason.Kinds p) s c want text) ↔ SomeLineFails s want text tree
 seven-in-items items stand n s c want text reached tree judged such =
     refused-exactly items stand n s c want text reached tree judged such.0 such.1
 
@@ -65,11 +66,11 @@ refused-for-kinds slots head n s c want text such = (
   (λ w.
       let (x, made) = w in
       let (p, at) = (exactly x).1 made.line in
-      let o : LineOrigin head n (refusal_at 7 p) = record { items = x.items; gives = x.gives; origin = record { style = s; scope = c; want = want; text = text; is = at } } in
-      (p, (check-refused slots head n (refusal_at 7 p)).1 (by-expression x.room x.size o), record { items = x.items; gives = x.gives; is = at })),
+      let o : LineOrigin head n (refusal_at reason.Kinds p) = record { items = x.items; gives = x.gives; origin = record { style = s; scope = c; want = want; text = text; is = at } } in
+      (p, (check-refused slots head n (refusal_at reason.Kinds p)).1 (by-expression x.room x.size o), record { items = x.items; gives = x.gives; is = at })),
 )
   where
     exactly : (x : Passes slots head n s c want text) →
-        ((p : ℕ) × RefusedAs x.items n (refusal_at 7 p) s c want text) ↔ SomeLineFails s want text x.tree
+        ((p : ℕ) × RefusedAs x.items n (refusal_at reason.Kinds p) s c want text) ↔ SomeLineFails s want text x.tree
     exactly x =
         seven-in-items x.items (gives-stand (take n (lines head)) x.items empty x.gives) n s c want text x.reached x.tree x.is (such x)

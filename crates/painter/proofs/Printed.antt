@@ -5,7 +5,8 @@ use Prim.Native.Nat.{ℕ, ◌≤◌}
 use native.Mathlib.Omega.{arith}
 use borrow.Author.Tests.{le-leb}
 use lib.ListN.{length, drop}
-use Rattle.plan.specs.Layout.{spans_size, floats_size}
+use Rattle.value.specs.declared.value.Value.{Value}
+use Rattle.plan.specs.Layout.{undeclared}
 use Rattle.style.specs.Answer.{Answer, refusal, accepted, on_accepted}
 use Rattle.style.specs.Style.{Style}
 use Rattle.style.specs.Head.{style_of, checked_of}
@@ -14,12 +15,13 @@ use Rattle.output.specs.Line.{front, longest_line}
 use Rattle.output.proofs.Sizes.{painted-page, refused-feature-page}
 use Rattle.painter.specs.declared.answer.Given.{Given}
 use Rattle.painter.specs.Paint.{given_answer, written_for, least_bytes, painted_of, feature_line, given_in}
-use Rattle.painter.specs.Applied.{Arrays, compiled, given_under}
+use Rattle.painter.specs.Applied.{compiled, given_under}
 use Rattle.painter.proofs.Order.{paint-style}
 use Rattle.painter.proofs.Law.Calls.{compiled-given}
+use Rattle.lexer.specs.Refusal.{reason_number}
 
 pub line-fits : (number : ℕ) (a : Answer Given) → length (feature_line number a) ≤ longest_line
-line-fits number (refusal line r) = refused-feature-page number r.number r.place
+line-fits number (refusal line r) = refused-feature-page number (reason_number r.reason) r.place
 line-fits number (accepted given) = painted-page number given.show given.colouring
 
 -- where any line fits
@@ -44,10 +46,10 @@ painted-given slots head number feature = ap given_in (paint-style least_bytes s
     by-style (accepted s) = by-given (given_answer s number feature)
 
 -- by a compiled head
-pub printed-compiled : (head room plan : List ℕ) → checked_of (length room) head ≡ accepted tt → (number : ℕ) (feature : List ℕ) (a : Arrays) →
-    length a.0 ≡ spans_size → length a.1 ≡ floats_size → (out : List ℕ) → longest_line ≤ length out →
+pub printed-compiled : (head room plan : List ℕ) → checked_of (length room) head ≡ accepted tt → (number : ℕ) (feature : List ℕ) (values : List Value) →
+    length values ≡ undeclared → (out : List ℕ) → longest_line ≤ length out →
     (let line = feature_line number (given_in (painted_of least_bytes (length room) head number feature)) in
-    front out (feature_line number (given_under (compiled head room plan feature) number a)) ≡ (line ++ drop (length line) out, length line))
-printed-compiled head room plan ok number feature a spans floats out h =
-    rw (compiled-given head room plan ok number feature a spans floats, painted-given (length room) head number feature)
+    front out (feature_line number (given_under (compiled head room plan feature) number values)) ≡ (line ++ drop (length line) out, length line))
+printed-compiled head room plan ok number feature values size out h =
+    rw (compiled-given head room plan ok number feature values size, painted-given (length room) head number feature)
     (printed-whole number (on_accepted (style_of (length room) head) (λ s. given_answer s number feature)) out h)

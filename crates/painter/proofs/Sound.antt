@@ -1,4 +1,5 @@
 -- What is worked out for a feature by an accepted style meets no fault and ends in a kind that its line takes.
+use Rattle.std.specs.Prelude.{Option, Some}
 use mathlib.Core.Path.{◌≡◌, refl, sym, ◌∙◌, ap, subst}
 use mathlib.Core.Bool.{Bool, true, false, cond}
 use mathlib.Core.List.{List, [], ◌∷◌, ◌++◌, map}
@@ -12,8 +13,6 @@ use Rattle.kind.specs.Set.{has}
 use Rattle.kind.specs.declared.kind.Kind.TheVariants as kind
 use Rattle.kind.proofs.Law.Sets.{in-single}
 use Rattle.value.specs.Value.{kind_of, truth}
-use Rattle.value.specs.declared.apply.Outcome.{Outcome}
-use Rattle.value.specs.declared.apply.Outcome.TheVariants.{Worked}
 use Rattle.value.specs.declared.value.Span.{Span}
 use Rattle.value.specs.declared.value.Value.{Value}
 use Rattle.value.specs.declared.value.Value.TheVariants.{Undefined, Null, Boolean, Number, String, Vec2, Vec3, Vec4}
@@ -74,9 +73,9 @@ moved-kind base (Vec4 x y z w) = refl
 
 module _ (s : Style) where
   -- Each comes to a value of its kinds that is wanted, if the names of its scope come to values of theirs, wherever its text lies.
-  pub stands-sound : (c : Scope) (want : Wanted) (e : Expression) → Stands c want s e → (strings : Span → List ℕ) (base : ℕ) (names : List ℕ → Outcome) →
+  pub stands-sound : (c : Scope) (want : Wanted) (e : Expression) → Stands c want s e → (strings : Span → List ℕ) (base : ℕ) (names : List ℕ → Option Value) →
       ((x : List ℕ) → Conforms (kinds_in c s x) (names x)) →
-      (v : Value) × (expression_at strings base names e ≡ Worked v) × T (has e.kinds (kind_of v)) × T (has (taken_by want) (kind_of v))
+      (v : Value) × (expression_at strings base names e ≡ Some v) × T (has e.kinds (kind_of v)) × T (has (taken_by want) (kind_of v))
   stands-sound c want e st strings base names h =
       accepted-result (context_at strings base names e)
       (λ p n. kinds_in c s (name_at e.text p)) (λ p k. moved-kind base (literal_at e.text p k) ∙ literal-kind e.text p k) e.tree
@@ -108,7 +107,7 @@ module _ (s : Style) where
       named-conforms e x = defined-conforms (strings_of s feature e) 0 0 s.defines all.defines x
 
       pub outcome-sound : (want : Wanted) (e : Expression) → Stands scope.Style want s e →
-          (v : Value) × (outcome_of s feature vs e ≡ Worked v) × T (has e.kinds (kind_of v)) × T (has (taken_by want) (kind_of v))
+          (v : Value) × (outcome_of s feature vs e ≡ Some v) × T (has e.kinds (kind_of v)) × T (has (taken_by want) (kind_of v))
       unfolding outcome_of
       outcome-sound want e st =
           stands-sound scope.Style want e st (strings_of s feature e) (own_base s) (name_outcome s feature vs e) (named-conforms e)

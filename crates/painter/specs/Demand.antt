@@ -2,23 +2,21 @@
 -- answer owes". "accepted and refused are what the program answers": of `check` (crate style, src/check.rt) and `paint` (src/paint.rt) the
 -- promises say, for every input, that they answer `checked_of` and `painted_of`, and that buffer and room are afterwards as `out_after` and
 -- `room_after` say. Each type beside which a demand's sentence stands is proved in proofs/Demands.antt.
-use Rattle.std.specs.Prelude.{◌≡◌, false, List, [], ◌∷◌, ◌++◌, map, ◌↔◌, ◌⊎◌, ℕ, ◌≤◌, ◌<◌, T, length, take, drop}
+use Rattle.std.specs.Prelude.{◌≡◌, false, List, [], ◌∷◌, ◌++◌, map, ◌↔◌, ◌⊎◌, ℕ, ◌≤◌, ◌<◌, T, length, take, drop, Option, None, Err}
 use Rattle.lexer.specs.Spelling.{All}
 use Rattle.lexer.specs.Refusal.{fine, refused, refusal_at}
 use Rattle.lexer.specs.Tokens.{Placed}
 use Rattle.lexer.specs.declared.refusal.Refusal.{Refusal}
-use Rattle.colour.specs.declared.colour.Colouring.TheVariants.{None}
+use Rattle.lexer.specs.declared.refusal.Reason.TheVariants as reason
 use Rattle.value.specs.Value.{text_in}
-use Rattle.value.specs.declared.apply.Outcome.{Outcome}
 use Rattle.value.specs.declared.value.Value.{Value}
 use Rattle.tree.specs.Tree.{Tree}
-use Rattle.plan.specs.Layout.{spans_size, floats_size}
+use Rattle.plan.specs.Layout.{undeclared}
 use Rattle.syntax.specs.Judge.{judged_of}
 use Rattle.syntax.specs.Place.{Scanned, RefusedAt}
 use Rattle.checker.specs.Name.{name_at}
 use Rattle.checker.specs.declared.name.Scope.{Scope}
 use Rattle.checker.specs.declared.name.Scope.TheVariants as scope
-use Rattle.checker.specs.declared.check.Verdict.TheVariants as verdict
 use Rattle.checker.specs.declared.check.Wanted.{Wanted}
 use Rattle.evaluator.specs.Literal.{literal_at}
 use Rattle.evaluator.specs.Eval.{eval_of}
@@ -38,8 +36,9 @@ use Rattle.output.specs.Line.{front, longest_line}
 use Rattle.painter.specs.Given.{Asked, NoneTrue}
 use Rattle.painter.specs.Meaning.{property_outcome, outcome_of, value_of, given_of}
 use Rattle.painter.specs.Entries.{worked_out_of, entries_for}
-use Rattle.painter.specs.Paint.{Written, schema_of, given_answer, written_for, least_bytes, painted_of, out_after, feature_line, given_in}
-use Rattle.painter.specs.Applied.{Arrays, compiled, given_under, applied_of}
+use Rattle.painter.specs.Paint.{schema_of, given_answer, written_for, least_bytes, painted_of, out_after, feature_line, given_in}
+use Rattle.painter.specs.Applied.{compiled, given_under, applied_of}
+use Rattle.painter.specs.declared.answer.Painted.{Painted}
 
 -- ---- 1: a call is refused exactly when the table says so
 
@@ -47,9 +46,9 @@ use Rattle.painter.specs.Applied.{Arrays, compiled, given_under, applied_of}
 -- to right, each by 1 to 7 in that order".
 pub data HeadRefused (slots : ℕ) (head : List ℕ) : ℕ → Refusal → Type 0 where
   -- "work room under the one size"; "For 10, where no line is read, line is 0."
-  by-room : slots < room_size → HeadRefused slots head 0 (refusal_at 10 0)
+  by-room : slots < room_size → HeadRefused slots head 0 (refusal_at reason.Room 0)
   -- "a byte size .. is over": "the limit; line 0 for the head"
-  by-size : room_size ≤ slots → head_size < length head → HeadRefused slots head 0 (refusal_at 1 head_size)
+  by-size : room_size ≤ slots → head_size < length head → HeadRefused slots head 0 (refusal_at reason.Size head_size)
   -- a line's 8, behind lines that give a style
   by-line : {n : ℕ} {r : Refusal} → room_size ≤ slots → length head ≤ head_size → NoItem head n r → HeadRefused slots head n r
   -- an expression's 1 to 7, behind all that the order puts before it
@@ -58,7 +57,7 @@ pub data HeadRefused (slots : ℕ) (head : List ℕ) : ℕ → Refusal → Type 
 -- The whole table: "an output buffer under 32 bytes" is a 10 too; and "then the strip: its size, the number of strips, 9" (`feature_of`),
 -- whose line is "the number its caller gives it".
 pub data CallRefused (bytes slots : ℕ) (head : List ℕ) (number : ℕ) (feature : List ℕ) : ℕ → Refusal → Type 0 where
-  by-buffer : bytes < least_bytes → CallRefused bytes slots head number feature 0 (refusal_at 10 0)
+  by-buffer : bytes < least_bytes → CallRefused bytes slots head number feature 0 (refusal_at reason.Room 0)
   by-head : {n : ℕ} {r : Refusal} → least_bytes ≤ bytes → HeadRefused slots head n r → CallRefused bytes slots head number feature n r
   by-feature : {r : Refusal} (s : Style) →
       least_bytes ≤ bytes →
@@ -85,7 +84,7 @@ abbrev pub Answered : Type 0
 Answered =
     (bytes slots : ℕ) (head : List ℕ) (number : ℕ) (feature : List ℕ) →
     ((n : ℕ) × (r : Refusal) × CallRefused bytes slots head number feature n r)
-    ⊎ ((w : Written) × (painted_of bytes slots head number feature ≡ accepted w))
+    ⊎ ((w : Painted) × (painted_of bytes slots head number feature ≡ accepted w))
 
 -- "a refused call changes no output buffer"
 abbrev pub BufferKept : Type 0
@@ -103,16 +102,16 @@ PaintAgrees =
 -- Of a 4 the place is that of the "first token no right expression can have there, or the end".
 abbrev pub FourPlaced : Type 0
 FourPlaced =
-    (slots : ℕ) (head : List ℕ) (n p : ℕ) → checked_of slots head ≡ refusal n (refusal_at 4 p) →
-    (o : LineOrigin head n (refusal_at 4 p)) × (ts : List Placed) × Scanned o.origin.text ts × RefusedAt o.origin.text ts p
+    (slots : ℕ) (head : List ℕ) (n p : ℕ) → checked_of slots head ≡ refusal n (refusal_at reason.Grammar p) →
+    (o : LineOrigin head n (refusal_at reason.Grammar p)) × (ts : List Placed) × Scanned o.origin.text ts × RefusedAt o.origin.text ts p
 
 -- Whatever is refused with 7 is an expression of a line: it has a tree, and it is the kinds of that which are refused there.
 abbrev pub SevenPlaced : Type 0
 SevenPlaced =
-    (slots : ℕ) (head : List ℕ) (n p : ℕ) → checked_of slots head ≡ refusal n (refusal_at 7 p) →
-    (o : LineOrigin head n (refusal_at 7 p)) × (tree : Tree) × (judged_of o.origin.text ≡ fine tree)
+    (slots : ℕ) (head : List ℕ) (n p : ℕ) → checked_of slots head ≡ refusal n (refusal_at reason.Kinds p) →
+    (o : LineOrigin head n (refusal_at reason.Kinds p)) × (tree : Tree) × (judged_of o.origin.text ≡ fine tree)
     × (verdict_on (kinds_in o.origin.scope o.origin.style) o.origin.want o.origin.text tree
-    ≡ verdict.Refused (refusal_at 7 p))
+    ≡ Err (refusal_at reason.Kinds p))
 
 -- ---- an accepted style, and a strip that conforms
 
@@ -161,14 +160,14 @@ NoColour =
 -- and no other strip is painted
 abbrev pub PaintedOnly : Type 0
 PaintedOnly =
-    (bytes slots : ℕ) (head : List ℕ) (number : ℕ) (feature : List ℕ) (w : Written) →
+    (bytes slots : ℕ) (head : List ℕ) (number : ℕ) (feature : List ℕ) (w : Painted) →
     painted_of bytes slots head number feature ≡ accepted w →
     (checked_of slots head ≡ accepted tt) × ConformsTo (schema_text head) number feature
 
 -- ---- 3, first half: nothing fails
 
 -- of some that are worked out none faults or ends in a kind that its line doesn't take
-abbrev pub NoneFails : {E : Type 0} → (E → Outcome) → List (Asked E) → Type 0
+abbrev pub NoneFails : {E : Type 0} → (E → Option Value) → List (Asked E) → Type 0
 NoneFails outcome [] = Unit {0}
 NoneFails outcome (x ∷ xs) = (fails x.want (outcome x.expression) ≡ false) × NoneFails outcome xs
 
@@ -191,7 +190,7 @@ NoDefine scope.Define s text e = Unit {0}
 NoDefine scope.Style s text e = Variables (λ p n. is_among (map define_name s.defines) (name_at text p) ≡ false) e
 
 -- "By itself means from the strip's values, whether or not the style comes to it"
-abbrev pub by_itself : Style → List ℕ → List Value → List ℕ → Tree → Outcome
+abbrev pub by_itself : Style → List ℕ → List Value → List ℕ → Tree → Option Value
 by_itself s feature vs text e =
     eval_of
     (record { text = text_in text feature; literals = literal_at text; variables = λ p n. property_outcome s vs (name_at text p) })
@@ -239,36 +238,36 @@ abbrev pub RefusedExactly : Type 0
 RefusedExactly =
     (slots : ℕ) (head : List ℕ) (n : ℕ) (s : Style) (c : Scope) (want : Wanted) (text : List ℕ) →
     ((x : Passes slots head n s c want text) → IsPlain c s text x.tree) →
-    ((p : ℕ) × (checked_of slots head ≡ refusal n (refusal_at 7 p)) × LineRefusedAs head n (refusal_at 7 p) s c want text)
+    ((p : ℕ) × (checked_of slots head ≡ refusal n (refusal_at reason.Kinds p)) × LineRefusedAs head n (refusal_at reason.Kinds p) s c want text)
     ↔ ((x : Passes slots head n s c want text) × SomeConformingFails head s want text x.tree)
 
 -- ---- the program: `compile` once, and then `given` or `apply` for each strip
 
--- of every accepted head something is true, whatever stood in room, plan and arrays before
-abbrev pub OnceCompiled : ((head room plan : List ℕ) (number : ℕ) (feature : List ℕ) → Arrays → Type 0) → Type 0
+-- of every accepted head something is true, whatever stood in room, plan and the values of names before
+abbrev pub OnceCompiled : ((head room plan : List ℕ) (number : ℕ) (feature : List ℕ) → List Value → Type 0) → Type 0
 OnceCompiled P =
-    (head room plan : List ℕ) → checked_of (length room) head ≡ accepted tt → (number : ℕ) (feature : List ℕ) (a : Arrays) →
-    length a.0 ≡ spans_size → length a.1 ≡ floats_size → P head room plan number feature a
+    (head room plan : List ℕ) → checked_of (length room) head ≡ accepted tt → (number : ℕ) (feature : List ℕ) (values : List Value) →
+    length values ≡ undeclared → P head room plan number feature values
 
 -- what `given` gives is what the style gives
 abbrev pub GivenAsMeant : Type 0
 GivenAsMeant =
-    OnceCompiled (λ head room plan number feature a.
-    given_under (compiled head room plan feature) number a
+    OnceCompiled (λ head room plan number feature values.
+    given_under (compiled head room plan feature) number values
     ≡ on_accepted (style_of (length room) head) (λ s. given_answer s number feature))
 
 -- what `apply` answers and writes is what `paint` does
 abbrev pub AppliedAsPainted : Type 0
 AppliedAsPainted =
-    OnceCompiled (λ head room plan number feature a.
+    OnceCompiled (λ head room plan number feature values.
     (out : List ℕ) →
     (let answer = painted_of (length out) (length room) head number feature in
-    applied_of (compiled head room plan feature) number out a ≡ (answer, out_after answer number out)))
+    applied_of (compiled head room plan feature) number out values ≡ (answer, out_after answer number out)))
 
 -- what `line` (src/print.rt) prints behind `given` is the line of what `paint` answers, and every byte behind it is as it came
 abbrev pub PrintedAsPainted : Type 0
 PrintedAsPainted =
-    OnceCompiled (λ head room plan number feature a.
+    OnceCompiled (λ head room plan number feature values.
     (out : List ℕ) → longest_line ≤ length out →
     (let line = feature_line number (given_in (painted_of least_bytes (length room) head number feature)) in
-    front out (feature_line number (given_under (compiled head room plan feature) number a)) ≡ (line ++ drop (length line) out, length line)))
+    front out (feature_line number (given_under (compiled head room plan feature) number values)) ≡ (line ++ drop (length line) out, length line)))

@@ -1,6 +1,6 @@
 -- What a style gives a feature, from the values of its expressions: page 01, "What the painter reads", "Kinds and meaning" and "What each
 -- answer owes". An expression may be anything that has a value: one of a style (`Meaning`), or a row of a plan (`Applied`).
-use Rattle.std.specs.Prelude.{◌≡◌, Bool, true, false, cond, List, [], ◌∷◌, ◌++◌, map}
+use Rattle.std.specs.Prelude.{◌≡◌, Bool, true, false, cond, List, [], ◌∷◌, ◌++◌, map, Option, Some, None}
 use Rattle.colour.specs.Colour.{clamped_of}
 use Rattle.value.specs.Value.{truth, colour_in}
 use Rattle.value.specs.Meaning.{white}
@@ -8,9 +8,8 @@ use Rattle.value.specs.declared.value.Value.{Value}
 use Rattle.checker.specs.declared.check.Wanted.{Wanted}
 use Rattle.checker.specs.declared.check.Wanted.TheVariants as wanted
 use Rattle.style.specs.Style.{Condition}
-use Rattle.colour.specs.declared.colour.Colouring.{Colouring}
-use Rattle.colour.specs.declared.colour.Colouring.TheVariants.{None, Of}
 use Rattle.painter.specs.declared.answer.Given.{Given}
+use Rattle.colour.specs.declared.colour.Colour.{Colour}
 
 -- an expression that is worked out, with what its line takes
 pub record Asked (E : Type 0) : Type 0 where
@@ -25,8 +24,8 @@ module _ {E : Type 0} (value : E → Value) where
   is_true e = truth (value e)
 
   -- "each below 0 or NaN becomes 0, above 1 becomes 1"
-  abbrev pub colour_by : E → Colouring
-  colour_by e = Of (clamped_of (colour_in (value e)))
+  abbrev pub colour_by : E → Option Colour
+  colour_by e = Some (clamped_of (colour_in (value e)))
 
   -- ---- what is given
 
@@ -36,14 +35,14 @@ module _ {E : Type 0} (value : E → Value) where
   shown_by (e ∷ es) = is_true e
 
   -- the first true condition decides, and there is no colour if none is true
-  abbrev pub conditioned_by : List (Condition E) → Colouring
+  abbrev pub conditioned_by : List (Condition E) → Option Colour
   conditioned_by [] = None
   conditioned_by (c ∷ cs) = cond (is_true c.test) (colour_by c.colour) (conditioned_by cs)
 
   -- "without `color` and `cond` it is white"
-  abbrev pub coloured_by : List E → List (Condition E) → Colouring
+  abbrev pub coloured_by : List E → List (Condition E) → Option Colour
   coloured_by (e ∷ es) cs = colour_by e
-  coloured_by [] [] = Of white
+  coloured_by [] [] = Some white
   coloured_by [] (c ∷ cs) = conditioned_by (c ∷ cs)
 
   -- by the expressions of `show`, of `color` and of `cond`

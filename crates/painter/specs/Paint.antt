@@ -1,6 +1,7 @@
 -- What the painter answers, and what it leaves in lent memory: page 01, "Refusal numbers" and "Checked examples".
-use Rattle.std.specs.Prelude.{cond, List, map, ◌++◌, ℕ, ltb, length, drop}
-use Rattle.lexer.specs.Refusal.{Judged, refused, fine, refusal_at}
+use Rattle.std.specs.Prelude.{cond, List, map, ◌++◌, ℕ, ltb, length, drop, Result, Ok, Err}
+use Rattle.lexer.specs.Refusal.{reason_number, Judged, refused, fine, refusal_at}
+use Rattle.lexer.specs.declared.refusal.Reason.TheVariants as reason
 use Rattle.kind.specs.declared.set.Kinds.{Kinds}
 use Rattle.value.specs.declared.value.Value.{Value}
 use Rattle.checker.specs.Property.{property_kinds}
@@ -12,26 +13,19 @@ use Rattle.feature.specs.Feature.{Values, complete, broken, entered_of}
 use Rattle.output.specs.Line.{painted_line, refused_feature}
 use Rattle.painter.specs.Meaning.{given_of}
 use Rattle.painter.specs.declared.answer.Given.{Given}
-use Rattle.painter.specs.declared.answer.Drawn.{Drawn}
-use Rattle.painter.specs.declared.answer.Drawn.TheVariants as drawn
 use Rattle.painter.specs.declared.answer.Painted.{Painted}
-use Rattle.painter.specs.declared.answer.Painted.TheVariants as painted
+use Rattle.style.specs.declared.check.LineRefusal.{LineRefusal}
 
 -- ---- answers in page 01's terms
 
--- what the style gives, and how many bytes are written
-pub record Written : Type 0 where
-  pub given : Given
-  pub bytes : ℕ
+-- page 01's number, line and place, or what is accepted
+abbrev pub answer_of : {A : Type 0} → Result A LineRefusal → Answer A
+answer_of (Err r) = refusal r.line r.refusal
+answer_of (Ok a) = accepted a
 
--- page 01's number, line and place for each case: of what is worked out for a feature, and of what is painted
-abbrev pub drawn_answer : Drawn → Answer Given
-drawn_answer (drawn.Refused r) = refusal r.line r.refusal
-drawn_answer (drawn.Given given) = accepted given
-
-abbrev pub answer_of : Painted → Answer Written
-answer_of (painted.Refused r) = refusal r.line r.refusal
-answer_of (painted.Painted given bytes) = accepted (record { given = given; bytes = bytes })
+-- the same of what a style gives a feature
+abbrev pub drawn_answer : Result Given LineRefusal → Answer Given
+drawn_answer drawn = answer_of drawn
 
 -- ---- a feature
 
@@ -39,7 +33,7 @@ answer_of (painted.Painted given bytes) = accepted (record { given = given; byte
 -- the line is "for a strip, the number its caller gives it".
 abbrev pub on_values : {A : Type 0} → ℕ → Judged Values → (List Value → A) → Answer A
 on_values number (refused r) make = refusal number r
-on_values number (fine (broken vs p)) make = refusal number (refusal_at 9 p)
+on_values number (fine (broken vs p)) make = refusal number (refusal_at reason.Feature p)
 on_values number (fine (complete vs)) make = accepted (make vs)
 
 -- the kinds that each property may have, in their order
@@ -57,10 +51,10 @@ given_answer s number text = on_values number (entered_of (schema_of s) number t
 abbrev pub given_line : ℕ → Given → List ℕ
 given_line number given = painted_line number given.show given.colouring
 
-abbrev pub written_for : ℕ → Given → Written
+abbrev pub written_for : ℕ → Given → Painted
 written_for number given = record { given = given; bytes = length (given_line number given) }
 
-abbrev pub featured : Style → ℕ → List ℕ → Answer Written
+abbrev pub featured : Style → ℕ → List ℕ → Answer Painted
 featured s number text = on_accepted (given_answer s number text) (λ given. accepted (written_for number given))
 
 -- ---- the call
@@ -70,11 +64,11 @@ abbrev pub least_bytes : ℕ
 least_bytes = 32
 
 abbrev pub short_buffer : {A : Type 0} → Answer A
-short_buffer = refusal 0 (refusal_at 10 0)
+short_buffer = refusal 0 (refusal_at reason.Room 0)
 
 -- "Order: 10; size of the head; then the head's lines in turn, each 8 first and then its expressions left to right, each by 1 to 7 in that
 -- order; then the strip": of the buffer and the room their lengths count, and the 10 of the room stands in `style_of`.
-unfoldable pub painted_of : ℕ → ℕ → List ℕ → ℕ → List ℕ → Answer Written
+unfoldable pub painted_of : ℕ → ℕ → List ℕ → ℕ → List ℕ → Answer Painted
 unfolding style_of entered_of
 painted_of bytes slots head number text =
     cond (ltb bytes least_bytes) short_buffer (on_accepted (style_of slots head) (λ s. featured s number text))
@@ -82,7 +76,7 @@ painted_of bytes slots head number text =
 -- ---- lent memory
 
 -- "A refused call leaves each output buffer as it came; an accepted one writes its line at the front and touches no byte after it."
-abbrev pub out_after : Answer Written → ℕ → List ℕ → List ℕ
+abbrev pub out_after : Answer Painted → ℕ → List ℕ → List ℕ
 out_after (refusal line r) number out = out
 out_after (accepted w) number out = given_line number w.given ++ drop w.bytes out
 
@@ -94,9 +88,9 @@ room_after bytes room = cond (ltb bytes least_bytes) room (style.room_after room
 
 -- the line of a feature: `1→true→#00FF0080`, or `3→refused→9→5`
 abbrev pub feature_line : ℕ → Answer Given → List ℕ
-feature_line number (refusal line r) = refused_feature number r.number r.place
+feature_line number (refusal line r) = refused_feature number (reason_number r.reason) r.place
 feature_line number (accepted given) = given_line number given
 
 -- what a call gives, its line aside
-abbrev pub given_in : Answer Written → Answer Given
+abbrev pub given_in : Answer Painted → Answer Given
 given_in a = on_accepted a (λ w. accepted w.given)

@@ -1,24 +1,16 @@
-// What the calls answer.
-use colour::colour::Colouring;
-use style::check::LineRefusal;
+// What the calls answer; a refusal is a `LineRefusal`, page 01's number, line and place.
+use colour::colour::Colour;
 
 // What a style gives a feature.
 #[derive(Clone, Copy)]
 pub struct Given {
     pub show: bool,
-    pub colouring: Colouring,
-}
-
-// Page 01's number, line and place; or what the style gives.
-#[derive(Clone, Copy)]
-pub enum Drawn {
-    Refused(LineRefusal),
-    Given(Given),
+    pub colouring: Option<Colour>,
 }
 
 // The same, and the count of bytes that are written.
 #[derive(Clone, Copy)]
-pub enum Painted {
-    Refused(LineRefusal),
-    Painted { given: Given, bytes: usize },
+pub struct Painted {
+    pub given: Given,
+    pub bytes: usize,
 }

@@ -83,18 +83,3 @@ plan_size = from_place expressions
 -- the number at a place of a plan; there is none behind the last
 abbrev pub number_at : List ℕ → ℕ → ℕ
 number_at plan place = cond (ltb place plan_size) (get_or plan place 0) 0
-
--- ---- the values of a feature
-
--- for each name's number a kind and two places, and four floats
-abbrev pub span_place : ℕ → ℕ
-span_place n = 3 * n
-
-abbrev pub float_place : ℕ → ℕ
-float_place n = 4 * n
-
-abbrev pub spans_size : ℕ
-spans_size = span_place undeclared
-
-abbrev pub floats_size : ℕ
-floats_size = float_place undeclared

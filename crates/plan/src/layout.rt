@@ -1,5 +1,5 @@
-// Sizes, rows and places of the flat arrays that are lent: where names lie, what painting needs of a
-// head, and the values of a feature.
+// Sizes, rows and places of the flat arrays that are lent: where names lie, and what painting needs of
+// a head.
 
 // "32 properties; 16 defines; 16 `cond` lines".
 pub const MOST_PROPERTIES: usize = 32;
@@ -55,20 +55,5 @@ pub const ROW: usize = 3;
 
 pub const PLAN: usize = 203;
 
-// What painting needs of a head.
+// What painting needs of a head. It is flat numbers and no struct, since callers in C will lend it.
 pub type Plan = [u16; PLAN];
-
-// ---- values
-
-// For each name's number a kind and two places, and four floats.
-pub const SPAN: usize = 3;
-
-pub const COMPONENTS: usize = 4;
-
-pub const SPANS: usize = 144;
-
-pub type Spans = [usize; SPANS];
-
-pub const FLOATS: usize = 192;
-
-pub type Floats = [f64; FLOATS];

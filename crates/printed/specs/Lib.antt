@@ -1,3 +1,3 @@
 -- What the contracts name
-pub mod Word
 pub mod Shown
+pub mod Printer

@@ -1,12 +1,12 @@
 -- A tree as text, with all its brackets.
-use Rattle.std.specs.Prelude.{Bool, cond, List, [], ◌++◌, ℕ, ◌/◌, ◌%◌}
+use Rattle.std.specs.Prelude.{Bool, cond, List, [], ◌∷◌, ◌++◌, map, ℕ, zero, suc, ◌/◌, ◌%◌}
+use Rattle.std.specs.Borrow.{Bor}
 use Rattle.std.proofs.Math.Seq.{slice}
 use Rattle.lexer.specs.Bytes.{ascii}
 use Rattle.lexer.specs.Token.{lexeme_at}
 use Rattle.lexer.specs.declared.token.Lexeme.{Lexeme}
 use Rattle.lexer.specs.declared.token.Lexeme.TheVariants.{Found, Bad, End}
 use Rattle.tree.specs.Tree.{Tree, literal, variable, unary, binary, conditional, bare, call, pick, Arguments, last, next}
-use Rattle.printed.specs.Word.{word_of}
 
 -- ---- what stands in the text
 
@@ -21,18 +21,48 @@ token_at text p = token_of text (lexeme_at text p)
 
 -- ---- signs and words, by their numbers
 
+-- the word of a table by its number, and nothing where the table has fewer
+abbrev pub word_of : ℕ → List (List ℕ) → List ℕ
+word_of n [] = []
+word_of zero (w ∷ ws) = w
+word_of (suc n) (w ∷ ws) = word_of n ws
+
+-- a table's words behind its references
+abbrev pub words_of : List (Bor (List ℕ)) → List (List ℕ)
+words_of = map (λ w. w.now)
+
+abbrev pub signs : List (List ℕ)
+signs =
+    ascii "?" ∷ ascii ":" ∷ ascii "||" ∷ ascii "&&" ∷ ascii "===" ∷ ascii "!==" ∷ ascii "<" ∷ ascii "<="
+    ∷ ascii ">" ∷ ascii ">=" ∷ ascii "+" ∷ ascii "-" ∷ ascii "*" ∷ ascii "/" ∷ ascii "%" ∷ ascii "!" ∷ []
+
 -- a punctuator
 unfoldable pub sign_of : ℕ → List ℕ
-sign_of n = word_of n (ascii "? : || && === !== < <= > >= + - * / % !")
+sign_of n = word_of n signs
+
+abbrev pub functions : List (List ℕ)
+functions =
+    ascii "vec2" ∷ ascii "vec3" ∷ ascii "vec4" ∷ ascii "rgb" ∷ ascii "rgba" ∷ ascii "color" ∷ ascii "isNaN"
+    ∷ ascii "isFinite" ∷ ascii "abs" ∷ ascii "sign" ∷ ascii "floor" ∷ ascii "ceil" ∷ ascii "round" ∷ ascii "fract"
+    ∷ ascii "min" ∷ ascii "max" ∷ ascii "clamp" ∷ ascii "mix" ∷ ascii "dot" ∷ ascii "cross" ∷ []
 
 unfoldable pub function_of : ℕ → List ℕ
-function_of n = word_of n (ascii "vec2 vec3 vec4 rgb rgba color isNaN isFinite abs sign floor ceil round fract min max clamp mix dot cross")
+function_of n = word_of n functions
+
+abbrev pub indices : List (List ℕ)
+indices =
+    ascii "0" ∷ ascii "1" ∷ ascii "2" ∷ ascii "3" ∷ []
 
 unfoldable pub index_of : ℕ → List ℕ
-index_of n = word_of n (ascii "0 1 2 3")
+index_of n = word_of n indices
+
+abbrev pub digits : List (List ℕ)
+digits =
+    ascii "0" ∷ ascii "1" ∷ ascii "2" ∷ ascii "3" ∷ ascii "4" ∷ ascii "5" ∷ ascii "6" ∷ ascii "7"
+    ∷ ascii "8" ∷ ascii "9" ∷ ascii "a" ∷ ascii "b" ∷ ascii "c" ∷ ascii "d" ∷ ascii "e" ∷ ascii "f" ∷ []
 
 unfoldable pub digit_of : ℕ → List ℕ
-digit_of n = word_of n (ascii "0 1 2 3 4 5 6 7 8 9 a b c d e f")
+digit_of n = word_of n digits
 
 -- ---- what stands around the parts of a node
 

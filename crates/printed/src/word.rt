@@ -1,45 +1,14 @@
-// Words of a table, which is a text with one space between two words, written on a page.
-ghost use Rattle.std.specs.Prelude.{◌≡◌, drop};
-ghost use Rattle.output.specs.Page.{written};
-ghost use Rattle.printed.specs.Word.{spaces_of, after_spaces, word_of};
+// Words of a table, written on a page.
+ghost use Rattle.output.specs.Page.{Writes};
+ghost use Rattle.printed.specs.Shown.{words_of, word_of};
 
-use output::page::byte;
+use output::page::Page;
 
-// How many spaces a byte is.
-fn spaces(b: u8) -> usize
-    ensures { result ≡ spaces_of b }
+// The word of a number, and nothing where the table has fewer.
+pub(crate) fn word(page: &mut Page, table: &[&[u8]], number: usize)
+    ensures { Writes page.old (word_of number (words_of table.now)) page.new }
 {
-    if b == b' ' { 1 } else { 0 }
-}
-
-// Where the word of a table begins that has a number of spaces before it.
-fn word_start(table: &[u8], number: usize) -> usize
-    ensures { drop result table.now ≡ after_spaces number table.now }
-{
-    let mut left = number;
-    let mut i = 0;
-    while i < table.len() {
-        if left == 0 {
-            return i;
-        }
-        left -= spaces(table[i]);
-        i += 1;
+    if let Some(word) = table.get(number) {
+        page.text(word);
     }
-    i
-}
-
-// That word, and nothing where the table has fewer.
-pub(crate) fn word(page: &mut [u8], at: usize, table: &[u8], number: usize) -> usize
-    ensures { (page.new, result) ≡ written (page.old, at) (word_of number table.now) }
-{
-    let mut end = at;
-    let mut i = word_start(table, number);
-    while i < table.len() {
-        if table[i] == b' ' {
-            return end;
-        }
-        end = byte(page, end, table[i]);
-        i += 1;
-    }
-    end
 }

@@ -1,6 +1,7 @@
 -- What items give, whoever has read them: every expression of their style was judged and checked, and by the names of that style; the style is whole; and they are refused exactly as an expression that is reached in one of them.
+use Rattle.std.specs.Prelude.{Result, Ok, Err}
 use mathlib.Core.Path.{◌≡◌, refl, sym, ◌∙◌, ap, subst}
-use mathlib.Core.Bool.{true, ◌&&◌, false≢true}
+use mathlib.Core.Bool.{true, ◌&&◌}
 use mathlib.Core.List.{List, [], ◌∷◌, ◌++◌, map}
 use mathlib.Core.Logic.{◌↔◌, ◌⊎◌, inl, inr}
 use Prim.Native.Nat.{ℕ, suc, ◌≤◌}
@@ -20,8 +21,6 @@ use Rattle.checker.specs.Kinds.{kinds_of, result_of}
 use Rattle.checker.specs.Check.{answer_of}
 use Rattle.checker.specs.declared.name.Scope.{Scope}
 use Rattle.checker.specs.declared.name.Scope.TheVariants as scope
-use Rattle.checker.specs.declared.check.Verdict.{Verdict}
-use Rattle.checker.specs.declared.check.Verdict.TheVariants as verdict
 use Rattle.checker.specs.declared.check.Wanted.{Wanted}
 use Rattle.checker.specs.declared.check.Wanted.TheVariants as wanted
 use Rattle.text.specs.declared.word.Line.TheVariants as line
@@ -37,7 +36,7 @@ use Rattle.style.specs.Holds.{Each}
 use Rattle.style.specs.Accepted.{Stands, AllStand, AllDeclared, Whole}
 use Rattle.style.proofs.Law.Ladder.{both}
 use Rattle.style.proofs.Law.Each.{each_map, each_more, each_none}
-use Rattle.style.proofs.Law.Answers.{is_fine, fine_in, refusal_in, accepted_in, on-refused, on_fine_lem}
+use Rattle.style.proofs.Law.Answers.{fine_in, refusal_in, accepted_in, on-refused, on_fine_lem}
 use Rattle.style.proofs.Law.Turns.{first_fine, refused-by, refused-at}
 
 -- ---- an item that is judged
@@ -81,7 +80,7 @@ module _ (s : Style) where
   item-adds i e h = go (item_judged s i) (item-told i) h
     where
       go : (j : Judged Entry) → Told i j → j ≡ fine e → Adds i e
-      go (refused r) told h = absurd (false≢true (ap is_fine h))
+      go (refused r) told h = absurd cc
       go (fine x) (goes a) h = subst (Adds i) (ap (fine_in x) h) a
 
   pub item_refused : (i : Item) (r : Refusal) → item_judged s i ≡ refused r → (c : Scope) × (want : Wanted) × (text : List ℕ) × Asks s i c want text × (expression_of (kinds_in c s) want text ≡ refused r)
@@ -89,7 +88,7 @@ module _ (s : Style) where
     where
       go : (j : Judged Entry) → Told i j → j ≡ refused r → (c : Scope) × (want : Wanted) × (text : List ℕ) × Asks s i c want text × (expression_of (kinds_in c s) want text ≡ refused r)
       go (refused x) (its {c} {want} {text} a e) h = (c, want, text, a, e ∙ ap (λ j. refused (refusal_in x j)) h)
-      go (fine x) told h = absurd (false≢true (sym (ap is_fine h)))
+      go (fine x) told h = absurd cc
 
   pub asks-refused : {i : Item} {c : Scope} {want : Wanted} {text : List ℕ} → Asks s i c want text → (r : Refusal) → expression_of (kinds_in c s) want text ≡ refused r → item_judged s i ≡ refused r
   unfolding item_judged
@@ -126,12 +125,12 @@ items_refused items n r = (
 record Made (look : List ℕ → Kinds) (want : Wanted) (text : List ℕ) (e : Expression) : Type 0 where
   own : e.text ≡ text
   judged-as : judged_of text ≡ fine e.tree
-  checked-as : result_of want (length text) (kinds_of (λ p n. look (name_at text p)) e.tree) ≡ verdict.Accepted e.kinds
+  checked-as : result_of want (length text) (kinds_of (λ p n. look (name_at text p)) e.tree) ≡ Ok e.kinds
 
 module _ (look : List ℕ → Kinds) (want : Wanted) (text : List ℕ) (e : Expression) where
-  by-kinds : (v : Verdict) (t : Tree) → result_of want (length text) (kinds_of (λ p n. look (name_at text p)) t) ≡ v → judged_of text ≡ fine t → by_kinds (answer_of v) text t ≡ fine e → Made look want text e
-  by-kinds (verdict.Refused r) t v j h = absurd (false≢true (ap is_fine h))
-  by-kinds (verdict.Accepted k) t v j h =
+  by-kinds : (v : Result Kinds Refusal) (t : Tree) → result_of want (length text) (kinds_of (λ p n. look (name_at text p)) t) ≡ v → judged_of text ≡ fine t → by_kinds (answer_of v) text t ≡ fine e → Made look want text e
+  by-kinds (Err r) t v j h = absurd cc
+  by-kinds (Ok k) t v j h =
       subst (Made look want text) (ap (fine_in e) h) (record { own = refl; judged-as = j; checked-as = v })
 
   made : expression_of look want text ≡ fine e → Made look want text e
@@ -139,7 +138,7 @@ module _ (look : List ℕ → Kinds) (want : Wanted) (text : List ℕ) (e : Expr
   made h = go (judged_of text) refl h
     where
       go : (j : Judged Tree) → judged_of text ≡ j → on_fine j (λ t. by_kinds (answer_of (result_of want (length text) (kinds_of (λ p n. look (name_at text p)) t))) text t) ≡ fine e → Made look want text e
-      go (refused r) q h = absurd (false≢true (ap is_fine h))
+      go (refused r) q h = absurd cc
       go (fine t) q h = by-kinds (result_of want (length text) (kinds_of (λ p n. look (name_at text p)) t)) t refl q h
 
 -- an expression that is accepted has the text that was judged

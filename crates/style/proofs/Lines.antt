@@ -1,4 +1,5 @@
 -- A head and its items: its lines give items, and it is refused exactly as one of its lines is, which is by an 8 or as an expression that is reached in its item. And what its `prop` lines give alone.
+use Rattle.std.specs.Prelude.{Option, Some, None}
 use mathlib.Core.Path.{◌≡◌, refl, sym, ◌∙◌, ap, ap₂, subst}
 use mathlib.Core.Bool.{Bool, true, false, cond, ◌&&◌, false≢true, true≢false}
 use mathlib.Core.List.{List, [], ◌∷◌, ◌++◌, map, append-nil, append_assoc}
@@ -8,7 +9,7 @@ use native.Mathlib.Omega.{arith}
 use borrow.Author.Tests.{eqb-true}
 use lib.Dec.{eqb, ltb}
 use lib.ListN.{length, take, drop, length-append, take-append-drop}
-use Rattle.lexer.specs.Refusal.{Judged, refused, fine}
+use Rattle.lexer.specs.Refusal.{reason_number, Judged, refused, fine}
 use Rattle.lexer.specs.declared.refusal.Refusal.{Refusal}
 use Rattle.lexer.proofs.Law.Runs.{by-test}
 use Rattle.kind.specs.declared.kind.Kind.{Kind}
@@ -19,15 +20,12 @@ use Rattle.text.specs.Parts.{lines, bytes_of, fields, field, field_start}
 use Rattle.text.specs.Word.{line_of, type_of, flags_of}
 use Rattle.text.specs.declared.word.Line.{Line}
 use Rattle.text.specs.declared.word.Line.TheVariants as word
-use Rattle.text.specs.declared.word.TypeName.{TypeName}
-use Rattle.text.specs.declared.word.TypeName.TheVariants as type
 use Rattle.text.specs.declared.word.Flags.{Flags}
-use Rattle.text.specs.declared.word.Flags.TheVariants as flags
 use Rattle.text.proofs.Law.Parts.{lines-front}
 use Rattle.style.specs.Answer.{refusal, accepted, on_line}
 use Rattle.style.specs.Style.{Style, Entry, empty, with, admits, admits_to, name_of, define_name}
 use Rattle.style.specs.Style as entry
-use Rattle.style.specs.Item.{Item, eight_at, is_new, on_flags, on_type, property_item, define_item, item_by, item_of, item_judged, line_said}
+use Rattle.style.specs.Item.{Item, eight_at, is_new, on_flags, on_type, property_item, define_item, item_by, on_word, item_of, item_judged, line_said}
 use Rattle.style.specs.Item as item
 use Rattle.style.specs.Head.{head_from, head_of}
 use Rattle.style.specs.Items.{word_of, may_stand, Stand, items_from, Asks, ItemAt, Reached, Gives, LineAt, Refused, NoItem, LineOrigin}
@@ -55,7 +53,7 @@ FieldsOf line (item.condition test colour) = (test ≡ field line 1) × (colour 
 module _ (s : Style) (line : List ℕ) where
   data Read : Judged Item → Type 0 where
     eight : (p : ℕ) → Read (eight_at p)
-    reads : {i : Item} → line_of (field line 0) ≡ word_of i → may_stand s i ≡ true → FieldsOf line i → Read (fine i)
+    reads : {i : Item} → line_of (field line 0) ≡ Some (word_of i) → may_stand s i ≡ true → FieldsOf line i → Read (fine i)
 
   count : (n : ℕ) → eqb (length (fields line)) n ≡ true → length (fields line) ≡ n
   count n e = eqb-true (length (fields line)) n e
@@ -63,15 +61,15 @@ module _ (s : Style) (line : List ℕ) where
   tested : (t : Bool) {i : Judged Item} (p : ℕ) → (t ≡ true → Read i) → Read (cond t i (eight_at p))
   tested t p f = by-test Read t f (λ _. eight p)
 
-  on-type : (f : TypeName) (p : ℕ) (k : Kind → Judged Item) → ((t : Kind) → Read (k t)) → Read (on_type f p k)
-  on-type type.Unknown p k g = eight p
-  on-type (type.Known t) p k g = g t
+  on-type : (f : Option Kind) (p : ℕ) (k : Kind → Judged Item) → ((t : Kind) → Read (k t)) → Read (on_type f p k)
+  on-type None p k g = eight p
+  on-type (Some t) p k g = g t
 
-  on-flags : (f : Flags) (p : ℕ) (name : List ℕ) (t : Kind) → line_of (field line 0) ≡ word.Prop → admits_to s word.Prop ≡ true → is_new (map name_of s.properties) name ≡ true → Read (on_flags f p name t)
-  on-flags flags.Unknown p name t w ok new = eight p
-  on-flags (flags.Known a n) p name t w ok new = reads w (and-true (admits_to s word.Prop) _ ok (and-true (is_new (map name_of s.properties) name) true new refl)) tt
+  on-flags : (f : Option Flags) (p : ℕ) (name : List ℕ) (t : Kind) → line_of (field line 0) ≡ Some word.Prop → admits_to s word.Prop ≡ true → is_new (map name_of s.properties) name ≡ true → Read (on_flags f p name t)
+  on-flags None p name t w ok new = eight p
+  on-flags (Some f) p name t w ok new = reads w (and-true (admits_to s word.Prop) _ ok (and-true (is_new (map name_of s.properties) name) true new refl)) tt
 
-  by-line : (l : Line) → line_of (field line 0) ≡ l → admits_to s l ≡ true → Read (item_by l s line)
+  by-line : (l : Line) → line_of (field line 0) ≡ Some l → admits_to s l ≡ true → Read (item_by l s line)
   unfolding property_item define_item
   by-line word.Prop w ok =
       tested (eqb (length (fields line)) 4) _
@@ -84,36 +82,39 @@ module _ (s : Style) (line : List ℕ) where
   by-line word.Color w ok = tested (eqb (length (fields line)) 2) _ (λ n. reads w (and-true (admits_to s word.Color) _ ok refl) (refl, omega (arith, count 2 n)))
   by-line word.Cond w ok = tested (eqb (length (fields line)) 3) _ (λ n. reads w (and-true (admits_to s word.Cond) _ ok refl) (refl, refl, omega (arith, count 3 n)))
   by-line word.Feat w ok = eight 0
-  by-line word.Unknown w ok = eight 0
+
+  by-word : (o : Option Line) → line_of (field line 0) ≡ o → Read (on_word o s line)
+  by-word None w = eight 0
+  by-word (Some l) w = tested (admits_to s l) 0 (λ ok. by-line l w ok)
 
   item-read : Read (item_of s line)
   unfolding item_of
-  item-read = tested (admits_to s (line_of (field line 0))) 0 (λ ok. by-line (line_of (field line 0)) refl ok)
+  item-read = by-word (line_of (field line 0)) refl
 
   -- it has the word of its item
-  pub item-stands : (i : Item) → item_of s line ≡ fine i → (line_of (field line 0) ≡ word_of i) × (may_stand s i ≡ true)
+  pub item-stands : (i : Item) → item_of s line ≡ fine i → (line_of (field line 0) ≡ Some (word_of i)) × (may_stand s i ≡ true)
   item-stands i h = go (item_of s line) item-read h
     where
-      go : (j : Judged Item) → Read j → j ≡ fine i → (line_of (field line 0) ≡ word_of i) × (may_stand s i ≡ true)
-      go (refused r) read h = absurd (false≢true (ap is_fine h))
+      go : (j : Judged Item) → Read j → j ≡ fine i → (line_of (field line 0) ≡ Some (word_of i)) × (may_stand s i ≡ true)
+      go (refused r) read h = absurd cc
       go (fine x) (reads w ok own) h =
           let e = ap (fine_in x) h in
-          (w ∙ ap word_of e, ap (may_stand s) (sym e) ∙ ok)
+          (w ∙ ap (λ i. Some (word_of i)) e, ap (may_stand s) (sym e) ∙ ok)
 
   -- and its expressions
   pub item-fields : (i : Item) → item_of s line ≡ fine i → FieldsOf line i
   item-fields i h = go (item_of s line) item-read h
     where
       go : (j : Judged Item) → Read j → j ≡ fine i → FieldsOf line i
-      go (refused r) read h = absurd (false≢true (ap is_fine h))
+      go (refused r) read h = absurd cc
       go (fine x) (reads w ok own) h = subst (FieldsOf line) (ap (fine_in x) h) own
 
-  pub item-eight : (r : Refusal) → item_of s line ≡ refused r → r.number ≡ 8
+  pub item-eight : (r : Refusal) → item_of s line ≡ refused r → reason_number r.reason ≡ 8
   item-eight r h = go (item_of s line) item-read h
     where
-      go : (j : Judged Item) → Read j → j ≡ refused r → r.number ≡ 8
-      go (refused x) (eight p) h = ap (λ j. (refusal_in r j).number) (sym h)
-      go (fine x) read h = absurd (true≢false (ap is_fine h))
+      go : (j : Judged Item) → Read j → j ≡ refused r → reason_number r.reason ≡ 8
+      go (refused x) (eight p) h = ap (λ j. reason_number (refusal_in r j).reason) (sym h)
+      go (fine x) read h = absurd cc
 
   -- and says what its item says
   pub said-item : (i : Item) → item_of s line ≡ fine i → line_said s line ≡ item_judged s i
@@ -308,7 +309,7 @@ more : {A : Type 0} (xs : List A) (x : A) → length (xs ++ x ∷ []) ≡ 0 → 
 more xs x h = omega (arith, length-append xs (x ∷ []))
 
 -- such an item shuts a style for them, and leaves those that it has
-shuts : (s : Style) (i : Item) (e : Entry) → is_property (word_of i) ≡ false → Adds s i e → Shut (with s e) × ((with s e).properties ≡ s.properties)
+shuts : (s : Style) (i : Item) (e : Entry) → is_property (Some (word_of i)) ≡ false → Adds s i e → Shut (with s e) × ((with s e).properties ≡ s.properties)
 shuts s i e not (property d) = absurd (true≢false not)
 shuts s i e not (define {name} x h) = (later _ _ _ _ _ (λ a b c d. more s.defines (record { name = name; expression = x }) a), refl)
 shuts s i e not (show x h) = (later _ _ _ _ _ (λ a b c d. more s.shows x b), refl)
@@ -316,7 +317,7 @@ shuts s i e not (color x h) = (later _ _ _ _ _ (λ a b c d. more s.colours x c),
 shuts s i e not (condition t x h k) = (later _ _ _ _ _ (λ a b c d. more s.conditions (record { test = t; colour = x }) d), refl)
 
 -- a property leaves a style of properties alone one
-stays : (s : Style) (i : Item) (e : Entry) → is_property (word_of i) ≡ true → s ≡ properties_of s → Adds s i e → with s e ≡ properties_of (with s e)
+stays : (s : Style) (i : Item) (e : Entry) → is_property (Some (word_of i)) ≡ true → s ≡ properties_of s → Adds s i e → with s e ≡ properties_of (with s e)
 stays s i e is_one a (property d) = ap (λ (s : Style). with s (entry.property d)) a
 stays s i e is_one a (define x h) = absurd (false≢true is_one)
 stays s i e is_one a (show x h) = absurd (false≢true is_one)
@@ -324,7 +325,7 @@ stays s i e is_one a (color x h) = absurd (false≢true is_one)
 stays s i e is_one a (condition t x h k) = absurd (false≢true is_one)
 
 -- where none may stand no item is one
-other : (s : Style) (i : Item) → Shut s → may_stand s i ≡ true → is_property (word_of i) ≡ false
+other : (s : Style) (i : Item) → Shut s → may_stand s i ≡ true → is_property (Some (word_of i)) ≡ false
 other s (item.property d) shut ok = absurd (false≢true (sym shut ∙ (both (admits_to s word.Prop) _ ok).0))
 other s (item.define name text) shut ok = refl
 other s (item.show text) shut ok = refl
@@ -341,7 +342,7 @@ stay s t is k st shut h = (from-items (λ x. Shut x × (x.properties ≡ s.prope
         (shut, same ∙ p.1)
 
 -- a line that is none of a property's ends those
-no-property : (l : List ℕ) (ls : List (List ℕ)) (i : Item) → line_of (field l 0) ≡ word_of i → is_property (word_of i) ≡ false → property_lines (l ∷ ls) ≡ []
+no-property : (l : List ℕ) (ls : List (List ℕ)) (i : Item) → line_of (field l 0) ≡ Some (word_of i) → is_property (Some (word_of i)) ≡ false → property_lines (l ∷ ls) ≡ []
 no-property l ls i e h = passed _ (ap is_property e ∙ h) refl
 
 -- the lines of the properties give these and no more, whatever is behind the lines that give a style and begins with no property
@@ -353,13 +354,13 @@ module _ (rest : List (List ℕ)) (none : property_lines rest ≡ []) where
   alone (l ∷ ls) [] k s t a g h = absurd g
   alone (l ∷ ls) (i ∷ is) k s t a g h =
       let (e, q, onward) = first_fine item_judged items_from (λ n s. refl) (λ n s i is. refl) k s t i is h in
-      go e q onward (item-adds s i e q) (is_property (word_of i)) refl (λ a. alone ls is (suc k) (with s e) t a (g.1 e q) onward)
+      go e q onward (item-adds s i e q) (is_property (Some (word_of i))) refl (λ a. alone ls is (suc k) (with s e) t a (g.1 e q) onward)
     where
-      word-is : line_of (field l 0) ≡ word_of i
+      word-is : line_of (field l 0) ≡ Some (word_of i)
       word-is = (item-stands s l i g.0).0
 
       -- and no line behind one that adds something else
-      go : (e : Entry) → item_judged s i ≡ fine e → items_from (suc k) (with s e) is ≡ accepted t → Adds s i e → (b : Bool) → is_property (word_of i) ≡ b →
+      go : (e : Entry) → item_judged s i ≡ fine e → items_from (suc k) (with s e) is ≡ accepted t → Adds s i e → (b : Bool) → is_property (Some (word_of i)) ≡ b →
           (with s e ≡ properties_of (with s e) → head_from (suc k) (with s e) (property_lines (ls ++ rest)) ≡ accepted (properties_of t)) →
           head_from k s (property_lines (l ∷ (ls ++ rest))) ≡ accepted (properties_of t)
       go e q onward adds true is_one below =
@@ -405,7 +406,7 @@ module _ (head : List ℕ) where
       let (l, at, read) = line_at head n items s r.item g r.stands in
       schema-of at.before (l ∷ at.after) s at.is at.given (no-property l at.after r.item (item-stands s l r.item read).0 (no-prop r.asks))
     where
-      no-prop : {i : Item} {c : Scope} {want : Wanted} {text : List ℕ} → Asks s i c want text → is_property (word_of i) ≡ false
+      no-prop : {i : Item} {c : Scope} {want : Wanted} {text : List ℕ} → Asks s i c want text → is_property (Some (word_of i)) ≡ false
       no-prop asks.define = refl
       no-prop asks.show = refl
       no-prop asks.color = refl

@@ -1,11 +1,10 @@
 -- What is true of a style that items give: page 01, "What the painter reads", "Sizes" and "Kinds and meaning" ("`show` and
 -- conditions must end in Boolean, colours in vec4, defines in any kind.").
-use Rattle.std.specs.Prelude.{◌≡◌, true, List, [], ◌∷◌, ◌⊎◌, length}
+use Rattle.std.specs.Prelude.{◌≡◌, true, List, [], ◌∷◌, ◌⊎◌, length, Ok}
 use Rattle.lexer.specs.Refusal.{fine}
 use Rattle.syntax.specs.Judge.{judged_of}
 use Rattle.checker.specs.declared.name.Scope.{Scope}
 use Rattle.checker.specs.declared.name.Scope.TheVariants as scope
-use Rattle.checker.specs.declared.check.Verdict.TheVariants as verdict
 use Rattle.checker.specs.declared.check.Wanted.{Wanted}
 use Rattle.checker.specs.declared.check.Wanted.TheVariants as wanted
 use Rattle.style.specs.Style.{Declared, Expression, Define, Condition, Style, kinds_in}
@@ -16,7 +15,7 @@ use Rattle.style.specs.Items.{is_declared}
 -- its tree is the one of its text, and it has its kinds by what the names stand for in the style, each of them wanted
 pub record Stands (c : Scope) (want : Wanted) (s : Style) (e : Expression) : Type 0 where
   pub judged : judged_of e.text ≡ fine e.tree
-  pub checked : verdict_on (kinds_in c s) want e.text e.tree ≡ verdict.Accepted e.kinds
+  pub checked : verdict_on (kinds_in c s) want e.text e.tree ≡ Ok e.kinds
 
 pub record AllStand (s : Style) : Type 0 where
   pub defines : Each (λ i (d : Define). Stands scope.Define wanted.Any s d.expression) 0 s.defines

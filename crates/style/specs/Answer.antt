@@ -1,7 +1,7 @@
 -- What a call answers: page 01, "Refusal numbers" ("0 | accepted"; "A refusal is number, line from 1 (for a strip, the number its caller
 -- gives it, over from 1,000,000), place from 0.").
 use Rattle.std.specs.Prelude.{ℕ}
-use Rattle.lexer.specs.Refusal.{Judged, refused, fine}
+use Rattle.lexer.specs.Refusal.{reason_number, Judged, refused, fine}
 use Rattle.lexer.specs.declared.refusal.Refusal.{Refusal}
 
 -- a refusal at a line, by its number and place, or what is accepted
@@ -10,7 +10,7 @@ pub data Answer (A : Type 0) : Type 0 where
   accepted : A → Answer A
 
 abbrev pub number_of : {A : Type 0} → Answer A → ℕ
-number_of (refusal line r) = r.number
+number_of (refusal line r) = reason_number r.reason
 number_of (accepted a) = 0
 
 -- what stands at a line is judged; if it is fine, something goes on from it

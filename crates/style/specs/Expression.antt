@@ -1,6 +1,6 @@
 -- One expression of a style: page 01, "Refusal numbers" ("its expressions left to right, each by 1 to 7 in that order") and "Kinds and
 -- meaning" ("`show` and conditions must end in Boolean, colours in vec4, defines in any kind.").
-use Rattle.std.specs.Prelude.{List, ℕ, length}
+use Rattle.std.specs.Prelude.{List, ℕ, length, Result}
 use Rattle.lexer.specs.Refusal.{Judged, fine, on_fine}
 use Rattle.kind.specs.declared.set.Kinds.{Kinds}
 use Rattle.tree.specs.Tree.{Tree}
@@ -8,12 +8,12 @@ use Rattle.syntax.specs.Judge.{judged_of}
 use Rattle.checker.specs.Name.{name_at}
 use Rattle.checker.specs.Kinds.{kinds_of, result_of}
 use Rattle.checker.specs.Check.{answer_of}
-use Rattle.checker.specs.declared.check.Verdict.{Verdict}
 use Rattle.checker.specs.declared.check.Wanted.{Wanted}
 use Rattle.style.specs.Style.{Expression}
+use Rattle.lexer.specs.declared.refusal.Refusal.{Refusal}
 
 -- the checker's verdict on the tree of a text, by the kinds that each name stands for
-abbrev pub verdict_on : (List ℕ → Kinds) → Wanted → List ℕ → Tree → Verdict
+abbrev pub verdict_on : (List ℕ → Kinds) → Wanted → List ℕ → Tree → Result Kinds Refusal
 verdict_on look want text e = result_of want (length text) (kinds_of (λ p n. look (name_at text p)) e)
 
 -- 7

@@ -1,13 +1,13 @@
 -- A head: page 01, "Refusal numbers" ("Order: 10; size of the head; then the head's lines in turn"; "For 10, where no line is read, line
 -- is 0.") and "Sizes".
-use Rattle.std.specs.Prelude.{cond, List, [], ◌∷◌, ℕ, suc, ltb, length, replicate}
+use Rattle.std.specs.Prelude.{cond, List, [], ◌∷◌, ℕ, suc, ltb, length, replicate, Result, Ok, Err}
 use Rattle.lexer.specs.Refusal.{refusal_at}
+use Rattle.lexer.specs.declared.refusal.Reason.TheVariants as reason
 use Rattle.text.specs.Parts.{lines}
 use Rattle.style.specs.Answer.{Answer, refusal, accepted, on_line, on_accepted}
 use Rattle.style.specs.Style.{Style, empty, with}
 use Rattle.style.specs.Item.{line_said}
-use Rattle.style.specs.declared.check.Checked.{Checked}
-use Rattle.style.specs.declared.check.Checked.TheVariants.{Accepted, Refused}
+use Rattle.style.specs.declared.check.LineRefusal.{LineRefusal}
 
 -- lines in turn, from a number on, behind those that have given a style
 abbrev pub head_from : ℕ → Style → List (List ℕ) → Answer Style
@@ -21,9 +21,9 @@ head_of head = head_from 1 empty (lines head)
 -- ---- what the call answers, and what it leaves in the room
 
 -- page 01's number, line and place for each case
-abbrev pub answer_of : Checked → Answer (Unit {0})
-answer_of (Refused r) = refusal r.line r.refusal
-answer_of Accepted = accepted tt
+abbrev pub answer_of : Result (Unit {0}) LineRefusal → Answer (Unit {0})
+answer_of (Err r) = refusal r.line r.refusal
+answer_of (Ok tt) = accepted tt
 
 -- "Head 32,768 bytes"
 abbrev pub head_size : ℕ
@@ -35,10 +35,10 @@ room_size = head_size
 
 -- before any line is read
 abbrev pub short_room : {A : Type 0} → Answer A
-short_room = refusal 0 (refusal_at 10 0)
+short_room = refusal 0 (refusal_at reason.Room 0)
 
 abbrev pub long_head : {A : Type 0} → Answer A
-long_head = refusal 0 (refusal_at 1 head_size)
+long_head = refusal 0 (refusal_at reason.Size head_size)
 
 -- a style, behind 10 and the head's size
 unfoldable pub style_of : ℕ → List ℕ → Answer Style

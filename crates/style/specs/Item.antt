@@ -1,8 +1,9 @@
 -- What a line of a head says before its expressions are judged: page 01, "What the painter reads" and number 8 of "Refusal numbers" ("a
 -- head line's word (unknown, out of order, one too many, `color` beside `cond`), then its field count, then its name, type and flags"; "0
 -- for the word; the end for the count; else first wrong field"). And how it is judged then, whoever has read it.
-use Rattle.std.specs.Prelude.{Bool, cond, not, ◌&&◌, List, map, ℕ, eqb, length}
+use Rattle.std.specs.Prelude.{Bool, cond, not, ◌&&◌, List, map, ℕ, eqb, length, Option, Some, None}
 use Rattle.lexer.specs.Refusal.{Judged, refused, fine, refusal_at, on_fine}
+use Rattle.lexer.specs.declared.refusal.Reason.TheVariants as reason
 use Rattle.kind.specs.declared.kind.Kind.{Kind}
 use Rattle.checker.specs.Property.{declared}
 use Rattle.checker.specs.declared.name.Scope.TheVariants as scope
@@ -13,10 +14,7 @@ use Rattle.text.specs.Name.{is_name}
 use Rattle.text.specs.Word.{line_of, type_of, flags_of}
 use Rattle.text.specs.declared.word.Line.{Line}
 use Rattle.text.specs.declared.word.Line.TheVariants as line
-use Rattle.text.specs.declared.word.TypeName.{TypeName}
-use Rattle.text.specs.declared.word.TypeName.TheVariants as type
 use Rattle.text.specs.declared.word.Flags.{Flags}
-use Rattle.text.specs.declared.word.Flags.TheVariants as flags
 use Rattle.style.specs.Style.{Declared, Expression, Style, Entry, admits_to, is_among, name_of, define_name, kinds_in}
 use Rattle.style.specs.Style as entry
 use Rattle.style.specs.Expression.{expression_of}
@@ -33,7 +31,7 @@ pub data Item : Type 0 where
 -- ---- the item of a line, or an 8
 
 abbrev pub eight_at : ℕ → Judged Item
-eight_at p = refused (refusal_at 8 p)
+eight_at p = refused (refusal_at reason.Line p)
 
 -- "the end for the count"
 abbrev pub counted : List ℕ → ℕ → Judged Item → Judged Item
@@ -43,13 +41,13 @@ counted text n item = cond (eqb (length (fields text)) n) item (eight_at (length
 abbrev pub is_new : List (List ℕ) → List ℕ → Bool
 is_new names x = is_name x && not (is_among names x)
 
-abbrev pub on_flags : Flags → ℕ → List ℕ → Kind → Judged Item
-on_flags flags.Unknown p name t = eight_at p
-on_flags (flags.Known a n) p name t = fine (property (record { name = name; property = declared t a n }))
+abbrev pub on_flags : Option Flags → ℕ → List ℕ → Kind → Judged Item
+on_flags None p name t = eight_at p
+on_flags (Some f) p name t = fine (property (record { name = name; property = declared t f.absent f.null }))
 
-abbrev pub on_type : TypeName → ℕ → (Kind → Judged Item) → Judged Item
-on_type type.Unknown p k = eight_at p
-on_type (type.Known t) p k = k t
+abbrev pub on_type : Option Kind → ℕ → (Kind → Judged Item) → Judged Item
+on_type None p k = eight_at p
+on_type (Some t) p k = k t
 
 -- `prop` name type flags
 unfoldable pub property_item : Style → List ℕ → Judged Item
@@ -74,12 +72,15 @@ item_by line.Show s text = counted text 2 (fine (show (field text 1)))
 item_by line.Color s text = counted text 2 (fine (color (field text 1)))
 item_by line.Cond s text = counted text 3 (fine (condition (field text 1) (field text 2)))
 item_by line.Feat s text = eight_at 0
-item_by line.Unknown s text = eight_at 0
 
 -- "0 for the word"
+abbrev pub on_word : Option Line → Style → List ℕ → Judged Item
+on_word None s text = eight_at 0
+on_word (Some l) s text = cond (admits_to s l) (item_by l s text) (eight_at 0)
+
 unfoldable pub item_of : Style → List ℕ → Judged Item
 unfolding line_of property_item define_item
-item_of s text = let l = line_of (field text 0) in cond (admits_to s l) (item_by l s text) (eight_at 0)
+item_of s text = on_word (line_of (field text 0)) s text
 
 -- ---- an item is judged
 

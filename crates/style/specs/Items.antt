@@ -1,7 +1,7 @@
 -- A style by its items, whoever has read them: page 01, "What the painter reads" and "Refusal numbers" ("then the head's lines in turn,
 -- each 8 first and then its expressions left to right"). And the items that a head's lines give.
 use Rattle.std.specs.Prelude.{◌≡◌, Bool, true, false, ◌&&◌, List, [], ◌∷◌, ◌++◌, map, ℕ, suc, length, take}
-use Rattle.lexer.specs.Refusal.{fine, refused}
+use Rattle.lexer.specs.Refusal.{reason_number, fine, refused}
 use Rattle.lexer.specs.declared.refusal.Refusal.{Refusal}
 use Rattle.checker.specs.Property.{Property, undeclared, declared}
 use Rattle.checker.specs.declared.name.Scope.{Scope}
@@ -123,7 +123,7 @@ pub record NoItem (head : List ℕ) (n : ℕ) (r : Refusal) : Type 0 where
   pub line : List ℕ
   pub stands : LineAt head n style line
   pub said : item_of style line ≡ refused r
-  pub eight : r.number ≡ 8
+  pub eight : reason_number r.reason ≡ 8
 
 -- "and then its expressions": the lines up to it give items, and an expression of the last is refused
 pub record LineOrigin (head : List ℕ) (n : ℕ) (r : Refusal) : Type 0 where

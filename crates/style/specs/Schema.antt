@@ -1,6 +1,6 @@
 -- The schema of a head: page 01, "Refusal numbers" ("A strip conforms to a schema (`prop` lines, or none) if by this table neither
 -- 1 nor 9 refuses it after those `prop` lines alone, with room enough.").
-use Rattle.std.specs.Prelude.{Bool, true, false, cond, List, [], ◌∷◌, ℕ, take}
+use Rattle.std.specs.Prelude.{Bool, true, false, cond, List, [], ◌∷◌, ℕ, take, Option, Some, None}
 use Rattle.text.specs.Parts.{lines, bytes_of, field}
 use Rattle.text.specs.Word.{line_of}
 use Rattle.text.specs.declared.word.Line.{Line}
@@ -8,14 +8,14 @@ use Rattle.text.specs.declared.word.Line.TheVariants as word
 use Rattle.style.specs.Style.{Style, listed}
 
 -- a line's word is `prop`
-abbrev pub is_property : Line → Bool
-is_property word.Prop = true
-is_property word.Define = false
-is_property word.Show = false
-is_property word.Color = false
-is_property word.Cond = false
-is_property word.Feat = false
-is_property word.Unknown = false
+abbrev pub is_property : Option Line → Bool
+is_property None = false
+is_property (Some word.Prop) = true
+is_property (Some word.Define) = false
+is_property (Some word.Show) = false
+is_property (Some word.Color) = false
+is_property (Some word.Cond) = false
+is_property (Some word.Feat) = false
 
 -- "(`prop` lines, or none)": those that a head begins with
 abbrev pub property_lines : List (List ℕ) → List (List ℕ)

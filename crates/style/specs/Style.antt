@@ -74,7 +74,6 @@ admits line.Show properties defines shows colours conditions = ltb shows 1
 admits line.Color properties defines shows colours conditions = ltb colours 1 && eqb conditions 0
 admits line.Cond properties defines shows colours conditions = ltb conditions most_conditions && eqb colours 0
 admits line.Feat properties defines shows colours conditions = false
-admits line.Unknown properties defines shows colours conditions = false
 
 abbrev pub admits_to : Style → Line → Bool
 admits_to s l = admits l (length s.properties) (length s.defines) (length s.shows) (length s.colours) (length s.conditions)

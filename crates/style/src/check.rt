@@ -14,24 +14,14 @@ pub struct LineRefusal {
     pub refusal: Refusal,
 }
 
-#[derive(Clone, Copy)]
-pub enum Checked {
-    Accepted,
-    Refused(LineRefusal),
-}
-
 // Whether a head is accepted, or its first refusal. The room is zero afterwards; one that is too small
 // stays as it is.
-pub fn check(head: &[u8], room: &mut [u16]) -> Checked
+pub fn check(head: &[u8], room: &mut [u16]) -> Result<(), LineRefusal>
     ensures answer { answer_of result ≡ checked_of (length room.old) head.now }
     ensures zero { room.new ≡ room_after room.old }
 {
     let mut plan = [0u16; PLAN];
-    match compile(head, &mut plan, room) {
-        Checked::Accepted => {
-            clear(room);
-            Checked::Accepted
-        }
-        Checked::Refused(refusal) => Checked::Refused(refusal),
-    }
+    compile(head, &mut plan, room)?;
+    clear(room);
+    Ok(())
 }

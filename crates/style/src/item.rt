@@ -1,14 +1,14 @@
 // What a line of a head says before its expressions are judged, or its 8.
 ghost use Rattle.std.specs.Prelude.{◌≡◌, length};
 ghost use Rattle.text.specs.Parts.{fields};
-ghost use Rattle.style.specs.Inner.{admits_by, is_new_property, is_new_define, eight, single_item, FlagsBy, PropertyBy, DefineBy};
-ghost use Rattle.style.specs.Inner.{SingleBy, ConditionBy, ItemBy};
+ghost use Rattle.text.specs.declared.word.Line.TheVariants as word;
+ghost use Rattle.style.specs.Inner.{admits_by, is_new_property, is_new_define, eight, FlagsBy, SingleBy, WordBy, ItemBy};
 
 use checker::name;
 use checker::name::Scope;
 use checker::property::{kinds, packed};
 use kind::kind::Kind;
-use lexer::refusal::Refusal;
+use lexer::refusal::{Reason, Refusal};
 use plan::layout::{
     COLOURS, CONDITIONS, DEFINES, FIRST_DEFINE, MOST_CONDITIONS, MOST_DEFINES, MOST_PROPERTIES,
     Names, PROPERTIES, Plan, SHOWS, UNDECLARED,
@@ -17,12 +17,34 @@ use plan::numbers::number_at;
 use text::name::is_name;
 use text::part;
 use text::part::{Part, TAB};
-use text::word::{Flags, Line, TypeName, flags_of, line_of, type_of};
+use text::word::{Line, flags_of, line_of, type_of};
+
+// What the lines before have declared: where names lie in the head, and the plan.
+#[derive(Clone, Copy)]
+pub(crate) struct Before<'a> {
+    pub head: &'a [u8],
+    pub names: &'a Names,
+    pub plan: &'a Plan,
+}
+
+impl Before<'_> {
+    fn is_new_property(&self, text: &[u8]) -> bool
+        ensures { result ≡ is_new_property self.now.head.now self.now.names.now text.now }
+    {
+        is_name(text) & (UNDECLARED <= name::number(Scope::Define, self.head, self.names, text))
+    }
+
+    fn is_new_define(&self, text: &[u8]) -> bool
+        ensures { result ≡ is_new_define self.now.head.now self.now.names.now text.now }
+    {
+        let number = name::number(Scope::Style, self.head, self.names, text);
+        is_name(text) & ((number < FIRST_DEFINE) | (UNDECLARED <= number))
+    }
+}
 
 // Names and expressions are parts of the line.
 #[derive(Clone, Copy)]
 pub(crate) enum Item {
-    Refused(Refusal),
     Property { name: Part, set: u16 },
     Define { name: Part, text: Part },
     Show(Part),
@@ -30,10 +52,13 @@ pub(crate) enum Item {
     Condition { test: Part, colour: Part },
 }
 
-fn eight(place: usize) -> Item
+fn eight(place: usize) -> Refusal
     ensures { result ≡ eight place }
 {
-    Item::Refused(Refusal { number: 8, place })
+    Refusal {
+        reason: Reason::Line,
+        place,
+    }
 }
 
 // Whether a line of a word may stand behind those that a plan counts.
@@ -53,127 +78,94 @@ fn admits(word: Line, plan: &Plan) -> bool
         Line::Color => (colours < 1) & (conditions == 0),
         Line::Cond => (conditions < MOST_CONDITIONS) & (colours == 0),
         Line::Feat => false,
-        Line::Unknown => false,
     }
 }
 
-fn is_new_property(head: &[u8], names: &Names, text: &[u8]) -> bool
-    ensures { result ≡ is_new_property head.now names.now text.now }
-{
-    is_name(text) & (UNDECLARED <= name::number(Scope::Define, head, names, text))
-}
-
-fn is_new_define(head: &[u8], names: &Names, text: &[u8]) -> bool
-    ensures { result ≡ is_new_define head.now names.now text.now }
-{
-    let number = name::number(Scope::Style, head, names, text);
-    is_name(text) & ((number < FIRST_DEFINE) | (UNDECLARED <= number))
-}
-
 // The flags of a property with a name, whose type is known.
-fn flags(line: &[u8], name: Part, kind: Kind) -> Item
+fn flags(line: &[u8], name: Part, kind: Kind) -> Result<Item, Refusal>
     requires { length (fields line.now) ≡ 4 }
     ensures { FlagsBy line.now name kind result }
 {
     let word = part::nth(TAB, line, 3);
-    let from = word.start;
-    let to = word.end;
-    match flags_of(&line[from..to]) {
-        Flags::Unknown => eight(from),
-        Flags::Known { absent, null } => Item::Property {
-            name,
-            set: packed(kinds(kind, absent, null)),
-        },
-    }
+    let Some(flags) = flags_of(&line[word.start..word.end]) else {
+        return Err(eight(word.start));
+    };
+    Ok(Item::Property {
+        name,
+        set: packed(kinds(kind, flags.absent, flags.null)),
+    })
 }
 
-fn property(head: &[u8], names: &Names, line: &[u8]) -> Item
-    ensures { PropertyBy head.now names.now line.now result }
+fn property(before: &Before, line: &[u8]) -> Result<Item, Refusal>
+    ensures { WordBy word.Prop before.now line.now result }
 {
     if part::count(TAB, line) != 4 {
-        return eight(line.len());
+        return Err(eight(line.len()));
     }
     let name = part::nth(TAB, line, 1);
-    let start = name.start;
-    let end = name.end;
-    if !is_new_property(head, names, &line[start..end]) {
-        return eight(start);
+    if !before.is_new_property(&line[name.start..name.end]) {
+        return Err(eight(name.start));
     }
     let word = part::nth(TAB, line, 2);
-    let from = word.start;
-    let to = word.end;
-    match type_of(&line[from..to]) {
-        TypeName::Unknown => eight(from),
-        TypeName::Known(kind) => flags(line, name, kind),
-    }
+    let Some(kind) = type_of(&line[word.start..word.end]) else {
+        return Err(eight(word.start));
+    };
+    flags(line, name, kind)
 }
 
-fn define(head: &[u8], names: &Names, line: &[u8]) -> Item
-    ensures { DefineBy head.now names.now line.now result }
+fn define(before: &Before, line: &[u8]) -> Result<Item, Refusal>
+    ensures { WordBy word.Define before.now line.now result }
 {
     if part::count(TAB, line) != 3 {
-        return eight(line.len());
+        return Err(eight(line.len()));
     }
     let name = part::nth(TAB, line, 1);
-    let start = name.start;
-    let end = name.end;
-    if !is_new_define(head, names, &line[start..end]) {
-        return eight(start);
+    if !before.is_new_define(&line[name.start..name.end]) {
+        return Err(eight(name.start));
     }
-    Item::Define {
-        name,
-        text: part::nth(TAB, line, 2),
-    }
+    let text = part::nth(TAB, line, 2);
+    Ok(Item::Define { name, text })
 }
 
-fn single_item(colour: bool, text: Part) -> Item
-    ensures { result ≡ single_item colour text }
-{
-    if colour {
-        Item::Colour(text)
-    } else {
-        Item::Show(text)
-    }
-}
-
-// `show` or `color`.
-fn single(colour: bool, line: &[u8]) -> Item
-    ensures { SingleBy colour line.now result }
+// The one field behind the word of `show` or `color`.
+fn single(line: &[u8]) -> Result<Part, Refusal>
+    ensures { SingleBy line.now result }
 {
     if part::count(TAB, line) != 2 {
-        return eight(line.len());
+        return Err(eight(line.len()));
     }
-    single_item(colour, part::nth(TAB, line, 1))
+    Ok(part::nth(TAB, line, 1))
 }
 
-fn condition(line: &[u8]) -> Item
-    ensures { ConditionBy line.now result }
+fn condition(before: &Before, line: &[u8]) -> Result<Item, Refusal>
+    ensures { WordBy word.Cond before.now line.now result }
 {
     if part::count(TAB, line) != 3 {
-        return eight(line.len());
+        return Err(eight(line.len()));
     }
-    Item::Condition {
+    Ok(Item::Condition {
         test: part::nth(TAB, line, 1),
         colour: part::nth(TAB, line, 2),
-    }
+    })
 }
 
-// The item of a line, behind those that plan and names have.
-pub(crate) fn item_of(head: &[u8], names: &Names, plan: &Plan, line: &[u8]) -> Item
-    ensures { ItemBy head.now names.now plan.now line.now result }
+// The item of a line.
+pub(crate) fn item_of(before: &Before, line: &[u8]) -> Result<Item, Refusal>
+    ensures { ItemBy before.now line.now result }
 {
     let end = part::end(TAB, line, 0);
-    let word = line_of(&line[0..end]);
-    if !admits(word, plan) {
-        return eight(0);
+    let Some(word) = line_of(&line[..end]) else {
+        return Err(eight(0));
+    };
+    if !admits(word, before.plan) {
+        return Err(eight(0));
     }
     match word {
-        Line::Prop => property(head, names, line),
-        Line::Define => define(head, names, line),
-        Line::Show => single(false, line),
-        Line::Color => single(true, line),
-        Line::Cond => condition(line),
-        Line::Feat => eight(0),
-        Line::Unknown => eight(0),
+        Line::Prop => property(before, line),
+        Line::Define => define(before, line),
+        Line::Show => Ok(Item::Show(single(line)?)),
+        Line::Color => Ok(Item::Colour(single(line)?)),
+        Line::Cond => condition(before, line),
+        Line::Feat => Err(eight(0)),
     }
 }

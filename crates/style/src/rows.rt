@@ -46,7 +46,7 @@ fn counted(plan: &mut Plan, word: usize)
     requires { (word < 5) × (get_or plan.old word 0 < 32) }
     ensures { plan.new ≡ count_with word plan.old }
 {
-    plan[word] = plan[word] + 1;
+    plan[word] += 1;
 }
 
 fn with_define(name: Part, e: Expression, at: usize, names: &mut Names, plan: &mut Plan)
@@ -78,7 +78,6 @@ pub(crate) fn with_entry(entry: Entry, at: usize, names: &mut Names, plan: &mut 
         × (plan.new ≡ plan_with at entry plan.old) }
 {
     match entry {
-        Entry::Refused(_) => {}
         Entry::Property { name, set } => {
             let row = number_at(plan, PROPERTIES);
             counted(plan, PROPERTIES);

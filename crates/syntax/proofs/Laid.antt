@@ -1,4 +1,5 @@
 -- A parsed tree lies in its text and has known numbers, so it is read back from the slots into which it was laid.
+use Rattle.std.specs.Prelude.{Option, Some, None}
 use mathlib.Core.Path.{◌≡◌, refl, subst, ◌∙◌}
 use mathlib.Core.Bool.{Bool, true, false}
 use mathlib.Core.List.{List, ◌++◌}
@@ -19,7 +20,7 @@ use Rattle.tree.proofs.Back.{Holds, holds-lay, holds_more, read_back}
 use Rattle.syntax.specs.Sizes.{most_bytes, most_height}
 use Rattle.syntax.specs.Symbol.{question, colon, open_round, close_round, open_square, close_square, comma, dot, word, end, symbol_at, is, is_literal, form_of, is_index, index_of, is_word, is_prefix, precedence_of, levels, has_precedence, function_of, member_of}
 use Rattle.syntax.specs.Symbol as symbol
-use Rattle.syntax.specs.Parser.{Result, part, refused, spent, nothing, and_then, on_part, ask, on_next, at_end, ended, closed}
+use Rattle.syntax.specs.Parser.{Parse, part, refused, spent, nothing, and_then, on_part, ask, on_next, at_end, ended, closed}
 use Rattle.syntax.specs.Parser.{Branches, branches, chosen, expression_from, branches_from, level_from, tail_from, unary_from}
 use Rattle.syntax.specs.Parser.{postfix_from, picks_from, primary_from, call_from, arguments_from, followed, in_text, steps_for, parse_of}
 use Rattle.syntax.specs.Height.{height_of}
@@ -27,8 +28,6 @@ use Rattle.syntax.specs.Names.{unknown_in, leftmost_of}
 use Rattle.syntax.specs.Judge.{by_names, by_height, by_grammar, by_tokens, by_size, judged_of, slots_after}
 use Rattle.syntax.specs.Inner.{Sound, branches_shape}
 use Rattle.syntax.specs.declared.symbol.Symbol.{Symbol}
-use Rattle.syntax.specs.declared.names.Leftmost.{Leftmost}
-use Rattle.syntax.specs.declared.names.Leftmost.TheVariants.{At, Nothing}
 use Rattle.syntax.proofs.Law.Symbols.{sound-at, later-at, function-known, member-known, in-range}
 use Rattle.syntax.proofs.Law.Levels.{operator-number, prefix-operator}
 use Rattle.syntax.proofs.Law.Heights.{pruned-low}
@@ -52,13 +51,13 @@ record Fit {A : Type 0} (shape : A → Shape) (known : A → Type 0) (text : Lis
   tidy : Within lo t.at (shape a)
   fits : known a
 
-abbrev FitsIn : {A : Type 0} → (A → Shape) → (A → Type 0) → List ℕ → ℕ → Result Symbol A → Type 0
+abbrev FitsIn : {A : Type 0} → (A → Shape) → (A → Type 0) → List ℕ → ℕ → Parse Symbol A → Type 0
 FitsIn shape known text lo (part a t) = Fit shape known text lo a t
 FitsIn shape known text lo (refused t) = Unit {0}
 FitsIn shape known text lo spent = Unit {0}
 
 -- each part that a parser gives at s fits
-record Fits {A : Type 0} (shape : A → Shape) (known : A → Type 0) (text : List ℕ) (lo : ℕ) (m : Symbol → Result Symbol A) (s : Symbol) : Type 0 where
+record Fits {A : Type 0} (shape : A → Shape) (known : A → Type 0) (text : List ℕ) (lo : ℕ) (m : Symbol → Parse Symbol A) (s : Symbol) : Type 0 where
   gives : FitsIn shape known text lo (m s)
 
 -- ---- tests
@@ -112,7 +111,7 @@ module _ {A : Type 0} {shape : A → Shape} {known : A → Type 0} {text : List 
   fits-part : {a : A} {s : Symbol} → Fit shape known text lo a s → Fits shape known text lo (part a) s
   fits-part h = record { gives = h }
 
-  fits-ask : {test : Symbol → Bool} (y : Symbol → Symbol → Result Symbol A) {n : Symbol → Result Symbol A} {x : Symbol} → Low test → Sound text x →
+  fits-ask : {test : Symbol → Bool} (y : Symbol → Symbol → Parse Symbol A) {n : Symbol → Parse Symbol A} {x : Symbol} → Low test → Sound text x →
       ((t : Symbol) → Past text test x t → Fits shape known text lo (y x) t) → Fits shape known text lo n x → Fits shape known text lo (ask (in_text text) test y n) x
   unfolding ask
   fits-ask {test} y {n} {x} low s behind else = record { gives = go (is end x) (test x) refl }
@@ -137,12 +136,12 @@ module _ {A : Type 0} {shape : A → Shape} {known : A → Type 0} {text : List 
       fits_refused
 
 module _ {A B : Type 0} {shape_a : A → Shape} {known_a : A → Type 0} {shape_b : B → Shape} {known_b : B → Type 0} {text : List ℕ} {lo lo' : ℕ} where
-  fits-then : {m : Symbol → Result Symbol A} {k : A → Symbol → Result Symbol B} {s : Symbol} → Fits shape_a known_a text lo m s →
+  fits-then : {m : Symbol → Parse Symbol A} {k : A → Symbol → Parse Symbol B} {s : Symbol} → Fits shape_a known_a text lo m s →
       ((a : A) (t : Symbol) → Fit shape_a known_a text lo a t → Fits shape_b known_b text lo' (k a) t) → Fits shape_b known_b text lo' (and_then m k) s
   unfolding and_then
   fits-then {m} {k} {s} h i = record { gives = go (m s) h.gives }
     where
-      go : (r : Result Symbol A) → FitsIn shape_a known_a text lo r → FitsIn shape_b known_b text lo' (on_part r k)
+      go : (r : Parse Symbol A) → FitsIn shape_a known_a text lo r → FitsIn shape_b known_b text lo' (on_part r k)
       go (part a t) f = (i a t f).gives
       go (refused t) f = tt
       go spent f = tt
@@ -314,15 +313,15 @@ module _ (text : List ℕ) where
   IfFine (fine e) = Right e
   IfFine (judged.refused r) = Unit {0}
 
-  names-right : (l : Leftmost) (e : Tree) → Right e → IfFine (by_names l e)
-  names-right (At p) e h = tt
-  names-right Nothing e h = h
+  names-right : (l : Option ℕ) (e : Tree) → Right e → IfFine (by_names l e)
+  names-right (Some p) e h = tt
+  names-right None e h = h
 
   height-right : (b : Bool) (e : Tree) → ltb most_height (height_of e) ≡ b → (height_of e ≤ most_height → Right e) → IfFine (by_height b text e)
   height-right true e q h = tt
   height-right false e q h = names-right (leftmost_of (unknown_in text e)) e (h (ltb-false most_height (height_of e) q))
 
-  grammar-right : (r : Result Symbol Tree) → parse_of text ≡ r → length text ≤ most_bytes → IfFine (by_grammar r text)
+  grammar-right : (r : Parse Symbol Tree) → parse_of text ≡ r → length text ≤ most_bytes → IfFine (by_grammar r text)
   grammar-right (part e y) q most = height-right (ltb most_height (height_of e)) e refl (λ low. (let d = parsed-fits text e y q in (most, low, d.0, d.1)))
   grammar-right (refused y) q most = tt
   grammar-right spent q most = tt

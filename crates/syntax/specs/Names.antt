@@ -1,23 +1,20 @@
 -- The names of an expression that are unknown: page 01, number 6 of "Refusal numbers".
-use Rattle.std.specs.Prelude.{cond, List, [], ◌∷◌, ◌++◌, ℕ, eqb, ltb, length}
+use Rattle.std.specs.Prelude.{cond, List, [], ◌∷◌, ◌++◌, ℕ, eqb, ltb, length, Option, Some, None}
 use Rattle.lexer.specs.Bytes.{place_in, ascii}
 use Rattle.lexer.specs.Token.{string_meaning}
 use Rattle.colour.specs.Text.{colour_of}
-use Rattle.colour.specs.declared.text.Named.{Named}
-use Rattle.colour.specs.declared.text.Named.TheVariants.{Known, Unknown}
 use Rattle.value.specs.Name.{function_names}
 use Rattle.tree.specs.Tree.{string_form, Tree, literal, variable, unary, binary, conditional, bare, call, pick, Arguments, last, next}
 use Rattle.syntax.specs.Symbol.{symbol_at, indices}
-use Rattle.syntax.specs.declared.names.Leftmost.{Leftmost}
-use Rattle.syntax.specs.declared.names.Leftmost.TheVariants.{At, Nothing}
+use Rattle.colour.specs.declared.colour.Colour.{Colour}
 
 -- a call at p of the function f, whose number is its place among the names
 abbrev pub unknown_function : ℕ → ℕ → List ℕ
 unknown_function p f = cond (ltb f (length function_names)) [] (p ∷ [])
 
-abbrev pub unless_named : Named → ℕ → List ℕ
-unless_named (Known c) p = []
-unless_named Unknown p = p ∷ []
+abbrev pub unless_named : Option Colour → ℕ → List ℕ
+unless_named (Some c) p = []
+unless_named None p = p ∷ []
 
 -- what the string at a place means
 abbrev pub string_at : List ℕ → ℕ → List ℕ
@@ -69,10 +66,10 @@ unfoldable mutual
   unknown_in_all text (next e q xs) = unknown_in text e ++ unknown_in_all text xs
 
 -- "of several the leftmost counts"
-abbrev pub lesser : ℕ → Leftmost → Leftmost
-lesser p Nothing = At p
-lesser p (At q) = cond (ltb q p) (At q) (At p)
+abbrev pub lesser : ℕ → Option ℕ → Option ℕ
+lesser p None = Some p
+lesser p (Some q) = cond (ltb q p) (Some q) (Some p)
 
-abbrev pub leftmost_of : List ℕ → Leftmost
-leftmost_of [] = Nothing
+abbrev pub leftmost_of : List ℕ → Option ℕ
+leftmost_of [] = None
 leftmost_of (p ∷ ps) = lesser p (leftmost_of ps)

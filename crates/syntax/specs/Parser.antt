@@ -14,49 +14,49 @@ use Rattle.syntax.specs.declared.symbol.Symbol.{Symbol}
 -- ---- pieces
 
 -- a part of an expression and what is left of the stream; a refusal and what is left, the refused symbol first; or no steps are left
-pub data Result (S A : Type 0) : Type 0 where
-  part : A → S → Result S A
-  refused : S → Result S A
-  spent : Result S A
+pub data Parse (S A : Type 0) : Type 0 where
+  part : A → S → Parse S A
+  refused : S → Parse S A
+  spent : Parse S A
 
 module _ {S A : Type 0} where
-  abbrev pub nothing : S → Result S A
+  abbrev pub nothing : S → Parse S A
   nothing s = spent
 
-  abbrev pub on_part : {B : Type 0} → Result S A → (A → S → Result S B) → Result S B
+  abbrev pub on_part : {B : Type 0} → Parse S A → (A → S → Parse S B) → Parse S B
   on_part (part e s) k = k e s
   on_part (refused s) k = refused s
   on_part spent k = spent
 
   -- one part and then another
-  unfoldable pub and_then : {B : Type 0} → (S → Result S A) → (A → S → Result S B) → S → Result S B
+  unfoldable pub and_then : {B : Type 0} → (S → Parse S A) → (A → S → Parse S B) → S → Parse S B
   and_then m k s = on_part (m s) k
 
-  abbrev pub tested : Bool → (Unit {0} → Result S A) → (Unit {0} → Result S A) → Result S A
+  abbrev pub tested : Bool → (Unit {0} → Parse S A) → (Unit {0} → Parse S A) → Parse S A
   tested true y n = y tt
   tested false y n = n tt
 
-  abbrev pub on_next : Option (Symbol × S) → (Symbol → Bool) → (Symbol → S → Result S A) → (Unit {0} → Result S A) → Result S A
+  abbrev pub on_next : Option (Symbol × S) → (Symbol → Bool) → (Symbol → S → Parse S A) → (Unit {0} → Parse S A) → Parse S A
   on_next none test y n = n tt
   on_next (some x) test y n = tested (test x.0) (λ _. y x.0 x.1) n
 
   -- if the next symbol passes the test, y behind it, else n before it
-  unfoldable pub ask : (S → Option (Symbol × S)) → (Symbol → Bool) → (Symbol → S → Result S A) → (S → Result S A) → S → Result S A
+  unfoldable pub ask : (S → Option (Symbol × S)) → (Symbol → Bool) → (Symbol → S → Parse S A) → (S → Parse S A) → S → Parse S A
   ask following test y n s = on_next (following s) test y (λ _. n s)
 
-  abbrev pub expect : (S → Option (Symbol × S)) → (Symbol → Bool) → (Symbol → S → Result S A) → S → Result S A
+  abbrev pub expect : (S → Option (Symbol × S)) → (Symbol → Bool) → (Symbol → S → Parse S A) → S → Parse S A
   expect following test y = ask following test y refused
 
-  abbrev pub ended : Option (Symbol × S) → A → S → Result S A
+  abbrev pub ended : Option (Symbol × S) → A → S → Parse S A
   ended none e s = part e s
   ended (some x) e s = refused s
 
   -- nothing may follow
-  unfoldable pub at_end : (S → Option (Symbol × S)) → A → S → Result S A
+  unfoldable pub at_end : (S → Option (Symbol × S)) → A → S → Parse S A
   at_end following e s = ended (following s) e s
 
   -- the bracket that closes comes next
-  abbrev pub closed : (S → Option (Symbol × S)) → A → S → Result S A
+  abbrev pub closed : (S → Option (Symbol × S)) → A → S → Parse S A
   closed following e = expect following (is close_round) (λ x. part e)
 
 -- ---- the levels
@@ -71,42 +71,42 @@ chosen p c (branches q a b) = conditional p q c a b
 module _ (text : List ℕ) {S : Type 0} (following : S → Option (Symbol × S)) where
   unfoldable mutual
     -- "a conditional nests to its right and its middle is a whole expression"
-    pub expression_from : ℕ → S → Result S Tree
+    pub expression_from : ℕ → S → Parse S Tree
     expression_from zero = nothing
     expression_from (suc f) =
         and_then (level_from f levels) (λ c.
         ask following (is question) (λ x. and_then (branches_from f) (λ b. part (chosen x.at c b)))
         (part c))
 
-    pub branches_from : ℕ → S → Result S Branches
+    pub branches_from : ℕ → S → Parse S Branches
     branches_from zero = nothing
     branches_from (suc f) =
         and_then (expression_from f) (λ a.
         expect following (is colon) (λ x. and_then (expression_from f) (λ b. part (branches x.at a b))))
 
     -- binary operators of the levels 1 to k: "Binary operators group to the left"
-    pub level_from : ℕ → ℕ → S → Result S Tree
+    pub level_from : ℕ → ℕ → S → Parse S Tree
     level_from zero k = nothing
     level_from (suc f) zero = unary_from f
     level_from (suc f) (suc k) = and_then (level_from f k) (λ e. tail_from f k e)
 
     -- the operators of the level k + 1 that follow an operand
-    pub tail_from : ℕ → ℕ → Tree → S → Result S Tree
+    pub tail_from : ℕ → ℕ → Tree → S → Parse S Tree
     tail_from zero k e = nothing
     tail_from (suc f) k e =
         ask following (has_precedence (suc k)) (λ x. and_then (level_from f k) (λ d. tail_from f k (binary x.at x.number e d)))
         (part e)
 
-    pub unary_from : ℕ → S → Result S Tree
+    pub unary_from : ℕ → S → Parse S Tree
     unary_from zero = nothing
     unary_from (suc f) = ask following is_prefix (λ x. and_then (unary_from f) (λ e. part (unary x.at x.number e))) (postfix_from f)
 
-    pub postfix_from : ℕ → S → Result S Tree
+    pub postfix_from : ℕ → S → Parse S Tree
     postfix_from zero = nothing
     postfix_from (suc f) = and_then (primary_from f) (λ e. picks_from f e)
 
     -- "A pick is `.` and a word, or `[0]` to `[3]`"
-    pub picks_from : ℕ → Tree → S → Result S Tree
+    pub picks_from : ℕ → Tree → S → Parse S Tree
     picks_from zero e = nothing
     picks_from (suc f) e =
         ask following (is dot) (λ x. expect following is_word (λ y. picks_from f (pick x.at (member_of text y) e)))
@@ -116,7 +116,7 @@ module _ (text : List ℕ) {S : Type 0} (following : S → Option (Symbol × S))
 
     -- "A primary is a number, string, variable, `true`, `false`, `null`, `undefined`, `NaN`, `Infinity`, a call, or brackets: a bracketed
     -- expression holds a whole expression again."
-    pub primary_from : ℕ → S → Result S Tree
+    pub primary_from : ℕ → S → Parse S Tree
     primary_from zero = nothing
     primary_from (suc f) =
         ask following is_literal (λ x. part (literal x.at (form_of x)))
@@ -125,21 +125,21 @@ module _ (text : List ℕ) {S : Type 0} (following : S → Option (Symbol × S))
         (ask following (is word) (λ x. call_from f x) refused)))
 
     -- the arguments of the word x
-    pub call_from : ℕ → Symbol → S → Result S Tree
+    pub call_from : ℕ → Symbol → S → Parse S Tree
     call_from zero x = nothing
     call_from (suc f) x =
         expect following (is open_round) (λ y.
         ask following (is close_round) (λ z. part (bare x.at (function_of text x)))
         (and_then (and_then (arguments_from f) (closed following)) (λ xs. part (call x.at (function_of text x) xs))))
 
-    pub arguments_from : ℕ → S → Result S Arguments
+    pub arguments_from : ℕ → S → Parse S Arguments
     arguments_from zero = nothing
     arguments_from (suc f) =
         and_then (expression_from f) (λ e.
         ask following (is comma) (λ x. and_then (arguments_from f) (λ xs. part (next e x.at xs)))
         (part (last e)))
 
-  abbrev pub whole_from : ℕ → S → Result S Tree
+  abbrev pub whole_from : ℕ → S → Parse S Tree
   whole_from f = and_then (expression_from f) (at_end following)
 
 -- ---- the tree of a text
@@ -161,6 +161,6 @@ abbrev pub steps_for : List ℕ → ℕ
 steps_for text = length text * steps_each + steps_each
 
 -- The tree of a text, or the symbol at which it is refused with 4.
-unfoldable pub parse_of : List ℕ → Result Symbol Tree
+unfoldable pub parse_of : List ℕ → Parse Symbol Tree
 unfolding symbol_at is_prefix precedence_of and_then ask at_end expression_from
 parse_of text = whole_from text (in_text text) (steps_for text) (symbol_at text 0)

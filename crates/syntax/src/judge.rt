@@ -7,94 +7,84 @@ ghost use Rattle.syntax.specs.Judge.{by_grammar, judged_of, root_of, judgement_o
 ghost use Rattle.syntax.specs.Inner.{tree_judged, JudgedBy};
 
 use crate::height::is_within;
-use crate::names::{Leftmost, unknown};
-use crate::parse::{Parsed, parse};
-use lexer::refusal::Refusal;
-use lexer::scan::{Verdict, scan};
+use crate::names::unknown;
+use crate::parse::parse;
+use lexer::refusal::{Reason, Refusal};
+use lexer::scan::scan;
 use tree::write::clear;
-
-// The root of the tree that lies in the slots, or a refusal.
-#[derive(Clone, Copy)]
-pub enum Judgement {
-    Fine { root: usize },
-    Refused(Refusal),
-}
 
 const MOST_BYTES: usize = 1024;
 
 pub const MOST_HEIGHT: usize = 64;
 
 // 5 and 6, over the tree at a place.
-fn tree_judgement(text: &[u8], slots: &[u16], root: usize) -> Judgement
+fn tree_judgement(text: &[u8], slots: &[u16], root: usize) -> Result<usize, Refusal>
     ensures { answer_of result ≡ tree_judged text.now root (tree_at most_height slots.now root) }
 {
     if !is_within(slots, root, MOST_HEIGHT) {
-        return Judgement::Refused(Refusal {
-            number: 5,
+        return Err(Refusal {
+            reason: Reason::Height,
             place: 0,
         });
     }
     match unknown(text, slots, root, MOST_HEIGHT) {
-        Leftmost::At(place) => Judgement::Refused(Refusal { number: 6, place }),
-        Leftmost::Nothing => Judgement::Fine { root },
+        Some(place) => Err(Refusal {
+            reason: Reason::Name,
+            place,
+        }),
+        None => Ok(root),
     }
 }
 
 // From 4 on.
-fn grammar_judgement(text: &[u8], slots: &mut [u16]) -> Judgement
+fn grammar_judgement(text: &[u8], slots: &mut [u16]) -> Result<usize, Refusal>
     requires { (length text.now ≤ most_bytes) × (length slots.old ≡ length text.now) }
     ensures { JudgedBy (by_grammar (parse_of text.now) text.now) slots.old slots.new result }
 {
-    match parse(text, slots) {
-        Parsed::Tree { root, next: _ } => tree_judgement(text, slots, root),
-        Parsed::Bad(x) => Judgement::Refused(Refusal {
-            number: 4,
-            place: x.at,
-        }),
-    }
+    let whole = parse(text, slots).map_err(|x| Refusal {
+        reason: Reason::Grammar,
+        place: x.at,
+    })?;
+    tree_judgement(text, slots, whole.root)
 }
 
 // From 1 on.
-fn size_judgement(text: &[u8], slots: &mut [u16]) -> Judgement
+fn size_judgement(text: &[u8], slots: &mut [u16]) -> Result<usize, Refusal>
     requires { length slots.old ≡ length text.now }
     ensures { JudgedBy (judged_of text.now) slots.old slots.new result }
 {
     if MOST_BYTES < text.len() {
-        return Judgement::Refused(Refusal {
-            number: 1,
+        return Err(Refusal {
+            reason: Reason::Size,
             place: MOST_BYTES,
         });
     }
-    match scan(text) {
-        Verdict::Fine => grammar_judgement(text, slots),
-        Verdict::Refused(refusal) => Judgement::Refused(refusal),
-    }
+    scan(text)?;
+    grammar_judgement(text, slots)
 }
 
 // The slots beside the text, which hold its tree or nothing.
-fn own_judgement(text: &[u8], slots: &mut [u16]) -> Judgement
+fn own_judgement(text: &[u8], slots: &mut [u16]) -> Result<usize, Refusal>
     requires { length slots.old ≡ length text.now }
     ensures { (answer_of result ≡ root_of (judged_of text.now))
         × (slots.new ≡ kept (judged_of text.now) slots.old) }
 {
-    match size_judgement(text, slots) {
-        Judgement::Fine { root } => Judgement::Fine { root },
-        Judgement::Refused(refusal) => {
-            clear(slots);
-            Judgement::Refused(refusal)
-        }
+    let judgement = size_judgement(text, slots);
+    if judgement.is_err() {
+        clear(slots);
     }
+    judgement
 }
 
 // Judges an expression, and lays its tree into the first slots, one for each of its bytes.
-pub fn judge(text: &[u8], slots: &mut [u16]) -> Judgement
+pub fn judge(text: &[u8], slots: &mut [u16]) -> Result<usize, Refusal>
     ensures { (answer_of result ≡ judgement_of (length slots.old) text.now)
         × (slots.new ≡ slots_after slots.old text.now) }
 {
     let n = text.len();
     if slots.len() < n {
-        return Judgement::Refused(Refusal {
-            number: 10,
+        return Err(Refusal {
+            reason: Reason::Room,
             place: 0,
         });
     }

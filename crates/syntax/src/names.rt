@@ -2,21 +2,15 @@
 ghost use Rattle.std.specs.Prelude.{◌≡◌};
 ghost use Rattle.colour.specs.Text.{colour_of};
 ghost use Rattle.tree.specs.Node.{tree_at, arguments_at, most_commas};
-ghost use Rattle.syntax.specs.Names.{unknown_function, unknown_literal, unknown_colour, unknown_call, unknown_member};
+ghost use Rattle.syntax.specs.Names.{unknown_function, unknown_colour, unknown_call, unknown_member};
 ghost use Rattle.syntax.specs.Names.{unknown_in, unknown_in_all, string_at, first, leftmost_of};
 ghost use Rattle.syntax.specs.Inner.{earlier_of, first_at};
 
 use crate::symbol::symbol_at;
 use colour::colour::Colour;
-use colour::text::Named;
-use tree::node::{Argument, MOST_COMMAS, Node, argument_at, node_at};
+use tree::node::{MOST_COMMAS, Node, argument_at, node_at};
 
-#[derive(Clone, Copy)]
-pub enum Leftmost {
-    At(usize),
-    Nothing,
-}
-
+// Functions, members and literals are numbers here, since a slot of the tree holds a number.
 const FUNCTIONS: usize = 20;
 
 const COMPONENTS: usize = 4;
@@ -26,89 +20,58 @@ const COLOR: usize = 5;
 const STRING: usize = 1;
 
 // The one of two that stands further to the left.
-fn earlier(a: Leftmost, b: Leftmost) -> Leftmost
+fn earlier(a: Option<usize>, b: Option<usize>) -> Option<usize>
     ensures { result ≡ earlier_of a b }
 {
-    match a {
-        Leftmost::At(p) => match b {
-            Leftmost::At(q) => {
-                if q < p {
-                    Leftmost::At(q)
-                } else {
-                    Leftmost::At(p)
-                }
-            }
-            Leftmost::Nothing => Leftmost::At(p),
-        },
-        Leftmost::Nothing => b,
+    match (a, b) {
+        (Some(p), Some(q)) => Some(p.min(q)),
+        _ => a.or(b),
     }
 }
 
-fn unknown_function(at: usize, function: usize) -> Leftmost
+fn unknown_function(at: usize, function: usize) -> Option<usize>
     ensures { result ≡ leftmost_of (unknown_function at function) }
 {
-    if function < FUNCTIONS {
-        Leftmost::Nothing
-    } else {
-        Leftmost::At(at)
-    }
+    (function >= FUNCTIONS).then_some(at)
 }
 
 // The member of a pick, whose word follows the dot.
-fn unknown_member(text: &[u8], at: usize, index: usize) -> Leftmost
+fn unknown_member(text: &[u8], at: usize, index: usize) -> Option<usize>
     ensures { result ≡ leftmost_of (unknown_member text.now at index) }
 {
     if index < COMPONENTS {
-        return Leftmost::Nothing;
+        return None;
     }
     let dot = symbol_at(text, at);
     let word = symbol_at(text, dot.end);
-    Leftmost::At(word.at)
+    Some(word.at)
 }
 
 // The colour that the string at a place names.
-fn colour_at(text: &[u8], at: usize) -> Named
+fn colour_at(text: &[u8], at: usize) -> Option<Colour>
     ensures { result ≡ colour_of (string_at text.now at) }
 {
     let x = symbol_at(text, at);
-    let start = x.at + 1;
-    let end = x.end;
-    if start < end {
-        Colour::from_text(&text[start..end - 1])
-    } else {
-        Named::Unknown
-    }
-}
-
-// The literal that is the first argument of a `color`.
-fn unknown_literal(text: &[u8], at: usize, argument: usize, form: usize) -> Leftmost
-    ensures { result ≡ leftmost_of (unknown_literal text.now at argument form) }
-{
-    if form != STRING {
-        return Leftmost::At(at);
-    }
-    match colour_at(text, argument) {
-        Named::Known(_) => Leftmost::Nothing,
-        Named::Unknown => Leftmost::At(argument),
-    }
+    Colour::from_text(text.get(x.at + 1..x.end.saturating_sub(1))?)
 }
 
 // Whatever is the first argument of a `color`.
+#[tactic(auto, using(crate::proofs::Law::Names::colours))]
 fn unknown_colour(
     text: &[u8],
     slots: &[u16],
     at: usize,
     argument: usize,
     allowance: usize,
-) -> Leftmost
+) -> Option<usize>
     ensures { result ≡ leftmost_of (unknown_colour text.now at (tree_at allowance slots.now argument)) }
 {
     if allowance == 0 {
-        return Leftmost::At(at);
+        return Some(at);
     }
     match node_at(slots, argument) {
-        Node::Literal(form) => unknown_literal(text, at, argument, form),
-        _ => Leftmost::At(at),
+        Node::Literal(STRING) => colour_at(text, argument).is_none().then_some(argument),
+        _ => Some(at),
     }
 }
 
@@ -116,13 +79,11 @@ fn unknown_colour(
 fn first_of(slots: &[u16], at: usize) -> usize
     ensures { result ≡ first_at slots.now at }
 {
-    match argument_at(slots, at) {
-        Argument::Last => at,
-        Argument::Next { first, rest: _ } => first,
-    }
+    argument_at(slots, at).map_or(at, |comma| comma.first)
 }
 
 // A call's own name, and the colour that it names.
+#[tactic(auto, using(crate::proofs::Law::Names::first_step))]
 fn unknown_call(
     text: &[u8],
     slots: &[u16],
@@ -130,7 +91,7 @@ fn unknown_call(
     function: usize,
     arguments: usize,
     allowance: usize,
-) -> Leftmost
+) -> Option<usize>
     ensures { result ≡ leftmost_of (unknown_call text.now at function
         (first (arguments_at (tree_at allowance slots.now) most_commas slots.now arguments))) }
 {
@@ -142,31 +103,27 @@ fn unknown_call(
 }
 
 // The leftmost unknown name in the tree at a place.
-#[cycle(unknown_unknown_among)]
-pub fn unknown(text: &[u8], slots: &[u16], at: usize, allowance: usize) -> Leftmost
+#[cycle(unknown)]
+#[tactic(auto, using(crate::proofs::Law::Names::by_node), unfolding(crate::specs::Names::unknown_in))]
+pub fn unknown(text: &[u8], slots: &[u16], at: usize, allowance: usize) -> Option<usize>
     ensures { result ≡ leftmost_of (unknown_in text.now (tree_at allowance slots.now at)) }
 {
     if allowance == 0 {
-        return Leftmost::Nothing;
+        return None;
     }
     let rest = allowance - 1;
     match node_at(slots, at) {
-        Node::Literal(_) => Leftmost::Nothing,
-        Node::Variable(_) => Leftmost::Nothing,
-        Node::Unary { operator: _, part } => unknown(text, slots, part, rest),
-        Node::Binary {
-            operator: _,
-            left,
-            right,
-        } => earlier(
+        Node::Literal(_) | Node::Variable(_) => None,
+        Node::Unary { part, .. } => unknown(text, slots, part, rest),
+        Node::Binary { left, right, .. } => earlier(
             unknown(text, slots, left, rest),
             unknown(text, slots, right, rest),
         ),
         Node::Conditional {
-            colon: _,
             test,
             first,
             second,
+            ..
         } => earlier(
             unknown(text, slots, test, rest),
             earlier(
@@ -190,19 +147,23 @@ pub fn unknown(text: &[u8], slots: &[u16], at: usize, allowance: usize) -> Leftm
 }
 
 // The same for the arguments at a place, with some commas at most.
-#[cycle(unknown_unknown_among)]
-fn unknown_among(text: &[u8], slots: &[u16], at: usize, allowance: usize, commas: usize) -> Leftmost
+#[cycle(unknown)]
+#[tactic(auto, using(crate::proofs::Law::Names::by_node), unfolding(crate::specs::Names::unknown_in))]
+fn unknown_among(
+    text: &[u8],
+    slots: &[u16],
+    at: usize,
+    allowance: usize,
+    commas: usize,
+) -> Option<usize>
     ensures { result ≡ leftmost_of (unknown_in_all text.now
         (arguments_at (tree_at allowance slots.now) commas slots.now at)) }
 {
-    if commas == 0 {
-        return unknown(text, slots, at, allowance);
-    }
     match argument_at(slots, at) {
-        Argument::Last => unknown(text, slots, at, allowance),
-        Argument::Next { first, rest } => earlier(
-            unknown(text, slots, first, allowance),
-            unknown_among(text, slots, rest, allowance, commas - 1),
+        Some(comma) if commas > 0 => earlier(
+            unknown(text, slots, comma.first, allowance),
+            unknown_among(text, slots, comma.rest, allowance, commas - 1),
         ),
+        _ => unknown(text, slots, at, allowance),
     }
 }

@@ -1,335 +1,275 @@
 // The levels of the grammar, which call each other in a cycle while the text left to read falls. Each writes the tree that it reads into
-// the slots.
-ghost use Rattle.std.specs.Prelude.{◌≡◌, ◌≤◌, ◌<◌};
+// the slots. That a symbol was read from the text (`Sound`) is said of each: a symbol that lent the text to say it by itself would
+// carry it through every level.
+ghost use Rattle.std.specs.Prelude.{◌≡◌, ◌≤◌};
 ghost use Rattle.syntax.specs.Symbol.{levels, word};
-ghost use Rattle.syntax.specs.Inner.{Sound, Goes, closed_of, member_pick_of, index_pick_of, picking_of};
-ghost use Rattle.syntax.specs.Inner.{ExpressionBy, BranchesBy, LevelBy, TailBy, UnaryBy, PostfixBy, PicksBy, PrimaryBy, CallBy};
+ghost use Rattle.syntax.specs.Inner.{Sound, closed_of, member_pick_of, index_pick_of, picking_of};
+ghost use Rattle.syntax.specs.Inner.{ExpressionBy, BranchesBy, LevelBy, UnaryBy, PostfixBy, PrimaryBy, CallBy};
 ghost use Rattle.syntax.specs.Inner.{ArgumentsBy, WholeBy};
 
-use crate::symbol::{
-    END, Symbol, VARIABLE, WORD, after, form, function, index, is_index, is_literal, is_prefix,
-    is_word, member, precedence, symbol_at,
-};
+use crate::symbol::{END, Symbol, VARIABLE, WORD, symbol_at};
 use lexer::punctuator::{
     CLOSE_ROUND, CLOSE_SQUARE, COLON, COMMA, DOT, OPEN_ROUND, OPEN_SQUARE, QUESTION,
 };
 use tree::write;
 
-// The place of a tree's root and the symbol behind it, or the symbol that can't stand where it does.
+// A tree that has been written: the place of its root, and the symbol behind it. What is refused is the
+// symbol that can't stand where it does.
 #[derive(Clone, Copy)]
-pub(crate) enum Parsed {
-    Tree { root: usize, next: Symbol },
-    Bad(Symbol),
+pub(crate) struct Parsed {
+    pub root: usize,
+    pub next: Symbol,
 }
 
 // One pick: its index and the symbol behind it.
 #[derive(Clone, Copy)]
-enum Picking {
-    Pick { index: u8, next: Symbol },
-    Bad(Symbol),
-    Nothing,
+struct Pick {
+    index: u8,
+    next: Symbol,
 }
 
 const LEVELS: usize = 6;
 
 // A whole expression: a conditional, or what stands before its `?`.
-#[cycle(arguments_branches_call_expression_level_postfix_primary_tail_unary)]
-fn expression(text: &[u8], slots: &mut [u16], x: Symbol) -> Parsed
+#[cycle(levels)]
+fn expression(text: &[u8], slots: &mut [u16], x: Symbol) -> Result<Parsed, Symbol>
     requires { Sound text.now x }
     ensures { ExpressionBy text.now slots.old slots.new x result }
 {
-    match level(text, slots, LEVELS, x) {
-        Parsed::Tree { root, next } => {
-            if next.number != QUESTION {
-                return Parsed::Tree { root, next };
-            }
-            match branches(text, slots, after(text, next)) {
-                Parsed::Tree {
-                    root: colon,
-                    next: last,
-                } => {
-                    write::conditional(slots, next.at, root, colon);
-                    Parsed::Tree {
-                        root: next.at,
-                        next: last,
-                    }
-                }
-                Parsed::Bad(y) => Parsed::Bad(y),
-            }
-        }
-        Parsed::Bad(y) => Parsed::Bad(y),
+    let test = level(text, slots, LEVELS, x)?;
+    let question = test.next;
+    if question.number != QUESTION {
+        return Ok(test);
     }
+    let chosen = branches(text, slots, question.after(text))?;
+    write::conditional(slots, question.at, test.root, chosen.root);
+    Ok(Parsed {
+        root: question.at,
+        next: chosen.next,
+    })
 }
 
 // The branches of a conditional, with the `:` as their root.
-#[cycle(arguments_branches_call_expression_level_postfix_primary_tail_unary)]
-fn branches(text: &[u8], slots: &mut [u16], x: Symbol) -> Parsed
+#[cycle(levels)]
+fn branches(text: &[u8], slots: &mut [u16], x: Symbol) -> Result<Parsed, Symbol>
     requires { Sound text.now x }
     ensures { BranchesBy text.now slots.old slots.new x result }
 {
-    match expression(text, slots, x) {
-        Parsed::Tree { root, next } => {
-            if next.number != COLON {
-                return Parsed::Bad(next);
-            }
-            match expression(text, slots, after(text, next)) {
-                Parsed::Tree {
-                    root: second,
-                    next: last,
-                } => {
-                    write::branches(slots, next.at, root, second);
-                    Parsed::Tree {
-                        root: next.at,
-                        next: last,
-                    }
-                }
-                Parsed::Bad(y) => Parsed::Bad(y),
-            }
-        }
-        Parsed::Bad(y) => Parsed::Bad(y),
+    let first = expression(text, slots, x)?;
+    let colon = first.next;
+    if colon.number != COLON {
+        return Err(colon);
     }
+    let second = expression(text, slots, colon.after(text))?;
+    write::branches(slots, colon.at, first.root, second.root);
+    Ok(Parsed {
+        root: colon.at,
+        next: second.next,
+    })
 }
 
 // Binary operators of the first k levels; with none of them, a unary expression.
-#[cycle(arguments_branches_call_expression_level_postfix_primary_tail_unary)]
-fn level(text: &[u8], slots: &mut [u16], k: usize, x: Symbol) -> Parsed
+#[cycle(levels)]
+fn level(text: &[u8], slots: &mut [u16], k: usize, x: Symbol) -> Result<Parsed, Symbol>
     requires { Sound text.now x × (k ≤ levels) }
     ensures { LevelBy k text.now slots.old slots.new x result }
 {
     if k == 0 {
         return unary(text, slots, x);
     }
-    match level(text, slots, k - 1, x) {
-        Parsed::Tree { root, next } => tail(text, slots, k - 1, root, next),
-        Parsed::Bad(y) => Parsed::Bad(y),
+    let mut left = level(text, slots, k - 1, x)?;
+    while left.next.precedence() == k {
+        let operator = left.next;
+        let right = level(text, slots, k - 1, operator.after(text))?;
+        write::binary(slots, operator.at, operator.number, left.root, right.root);
+        left = Parsed {
+            root: operator.at,
+            next: right.next,
+        };
     }
+    Ok(left)
 }
 
-// What follows an operand of the level k + 1, whose tree has its root at a place.
-#[cycle(arguments_branches_call_expression_level_postfix_primary_tail_unary)]
-fn tail(text: &[u8], slots: &mut [u16], k: usize, root: usize, x: Symbol) -> Parsed
-    requires { Goes text.now root x × (k < levels) }
-    ensures { TailBy k text.now slots.old slots.new root x result }
-{
-    if precedence(x.number) as usize != k + 1 {
-        return Parsed::Tree { root, next: x };
-    }
-    match level(text, slots, k, after(text, x)) {
-        Parsed::Tree { root: right, next } => {
-            write::binary(slots, x.at, x.number, root, right);
-            tail(text, slots, k, x.at, next)
-        }
-        Parsed::Bad(y) => Parsed::Bad(y),
-    }
-}
-
-#[cycle(arguments_branches_call_expression_level_postfix_primary_tail_unary)]
-fn unary(text: &[u8], slots: &mut [u16], x: Symbol) -> Parsed
+#[cycle(levels)]
+fn unary(text: &[u8], slots: &mut [u16], x: Symbol) -> Result<Parsed, Symbol>
     requires { Sound text.now x }
     ensures { UnaryBy text.now slots.old slots.new x result }
 {
-    if !is_prefix(x) {
+    if !x.is_prefix() {
         return postfix(text, slots, x);
     }
-    match unary(text, slots, after(text, x)) {
-        Parsed::Tree { root, next } => {
-            write::unary(slots, x.at, x.number, root);
-            Parsed::Tree { root: x.at, next }
-        }
-        Parsed::Bad(y) => Parsed::Bad(y),
+    let part = unary(text, slots, x.after(text))?;
+    write::unary(slots, x.at, x.number, part.root);
+    Ok(Parsed {
+        root: x.at,
+        next: part.next,
+    })
+}
+
+// `.` and a word, whose symbol comes after x.
+#[tactic(auto, unfolding(crate::specs::Inner::member_pick_of))]
+fn member_pick(text: &[u8], x: Symbol) -> Result<Pick, Symbol>
+    requires { Sound text.now x }
+    ensures { result ≡ member_pick_of text.now x }
+{
+    let word = x.after(text);
+    if !word.is_word() {
+        return Err(word);
+    }
+    Ok(Pick {
+        index: word.member(text),
+        next: word.after(text),
+    })
+}
+
+// `[`, an index and `]`.
+#[tactic(auto, unfolding(crate::specs::Inner::index_pick_of))]
+fn index_pick(text: &[u8], x: Symbol) -> Result<Pick, Symbol>
+    requires { Sound text.now x }
+    ensures { result ≡ index_pick_of text.now x }
+{
+    let index = x.after(text);
+    if !index.is_index() {
+        return Err(index);
+    }
+    let close = index.after(text);
+    if close.number != CLOSE_SQUARE {
+        return Err(close);
+    }
+    Ok(Pick {
+        index: index.index(),
+        next: close.after(text),
+    })
+}
+
+// The pick at a symbol, if one begins there.
+#[tactic(auto, unfolding(crate::specs::Inner::picking_of))]
+fn pick_at(text: &[u8], x: Symbol) -> Result<Option<Pick>, Symbol>
+    requires { Sound text.now x }
+    ensures { result ≡ picking_of text.now x }
+{
+    match x.number {
+        DOT => Ok(Some(member_pick(text, x)?)),
+        OPEN_SQUARE => Ok(Some(index_pick(text, x)?)),
+        _ => Ok(None),
     }
 }
 
 // A primary and its picks.
-#[cycle(arguments_branches_call_expression_level_postfix_primary_tail_unary)]
-fn postfix(text: &[u8], slots: &mut [u16], x: Symbol) -> Parsed
+#[cycle(levels)]
+fn postfix(text: &[u8], slots: &mut [u16], x: Symbol) -> Result<Parsed, Symbol>
     requires { Sound text.now x }
     ensures { PostfixBy text.now slots.old slots.new x result }
 {
-    match primary(text, slots, x) {
-        Parsed::Tree { root, next } => picks(text, slots, root, next),
-        Parsed::Bad(y) => Parsed::Bad(y),
+    let mut part = primary(text, slots, x)?;
+    while let Some(pick) = pick_at(text, part.next)? {
+        write::pick(slots, part.next.at, pick.index, part.root);
+        part = Parsed {
+            root: part.next.at,
+            next: pick.next,
+        };
     }
-}
-
-// `.` and a word, whose symbol comes after x.
-fn member_pick(text: &[u8], x: Symbol) -> Picking
-    requires { Sound text.now x }
-    ensures { result ≡ member_pick_of text.now x }
-{
-    let y = after(text, x);
-    if !is_word(y) {
-        return Picking::Bad(y);
-    }
-    Picking::Pick {
-        index: member(text, y),
-        next: after(text, y),
-    }
-}
-
-// `[`, an index and `]`.
-fn index_pick(text: &[u8], x: Symbol) -> Picking
-    requires { Sound text.now x }
-    ensures { result ≡ index_pick_of text.now x }
-{
-    let y = after(text, x);
-    if !is_index(y) {
-        return Picking::Bad(y);
-    }
-    let z = after(text, y);
-    if z.number != CLOSE_SQUARE {
-        return Picking::Bad(z);
-    }
-    Picking::Pick {
-        index: index(y),
-        next: after(text, z),
-    }
-}
-
-// The pick at a symbol, if one begins there.
-fn pick_at(text: &[u8], x: Symbol) -> Picking
-    requires { Sound text.now x }
-    ensures { result ≡ picking_of text.now x }
-{
-    if x.number == DOT {
-        return member_pick(text, x);
-    }
-    if x.number == OPEN_SQUARE {
-        return index_pick(text, x);
-    }
-    Picking::Nothing
-}
-
-// The picks of a part that has its root at a place.
-fn picks(text: &[u8], slots: &mut [u16], root: usize, x: Symbol) -> Parsed
-    requires { Goes text.now root x }
-    ensures { PicksBy text.now slots.old slots.new root x result }
-{
-    match pick_at(text, x) {
-        Picking::Pick { index, next } => {
-            write::pick(slots, x.at, index, root);
-            picks(text, slots, x.at, next)
-        }
-        Picking::Bad(y) => Parsed::Bad(y),
-        Picking::Nothing => Parsed::Tree { root, next: x },
-    }
+    Ok(part)
 }
 
 // What was parsed, if the bracket that closes it comes next.
-fn closed(text: &[u8], inside: Parsed) -> Parsed
+fn closed(text: &[u8], inside: Parsed) -> Result<Parsed, Symbol>
     ensures { result ≡ closed_of text.now inside }
 {
-    match inside {
-        Parsed::Tree { root, next } => {
-            if next.number != CLOSE_ROUND {
-                return Parsed::Bad(next);
-            }
-            Parsed::Tree {
-                root,
-                next: symbol_at(text, next.end),
-            }
-        }
-        Parsed::Bad(y) => Parsed::Bad(y),
+    let close = inside.next;
+    if close.number != CLOSE_ROUND {
+        return Err(close);
     }
+    Ok(Parsed {
+        next: symbol_at(text, close.end),
+        ..inside
+    })
 }
 
 // A literal, a variable, brackets with a whole expression in them, or a call.
-#[cycle(arguments_branches_call_expression_level_postfix_primary_tail_unary)]
-fn primary(text: &[u8], slots: &mut [u16], x: Symbol) -> Parsed
+#[cycle(levels)]
+fn primary(text: &[u8], slots: &mut [u16], x: Symbol) -> Result<Parsed, Symbol>
     requires { Sound text.now x }
     ensures { PrimaryBy text.now slots.old slots.new x result }
 {
-    if is_literal(x) {
-        write::literal(slots, x.at, form(x));
-        return Parsed::Tree {
+    if x.is_literal() {
+        write::literal(slots, x.at, x.form());
+        return Ok(Parsed {
             root: x.at,
-            next: after(text, x),
-        };
+            next: x.after(text),
+        });
     }
     if x.number == VARIABLE {
         write::variable(slots, x.at, 0);
-        return Parsed::Tree {
+        return Ok(Parsed {
             root: x.at,
-            next: after(text, x),
-        };
+            next: x.after(text),
+        });
     }
     if x.number == OPEN_ROUND {
-        return closed(text, expression(text, slots, after(text, x)));
+        let inside = expression(text, slots, x.after(text))?;
+        return closed(text, inside);
     }
     if x.number == WORD {
         return call(text, slots, x);
     }
-    Parsed::Bad(x)
+    Err(x)
 }
 
 // The call of a word.
-#[cycle(arguments_branches_call_expression_level_postfix_primary_tail_unary)]
-fn call(text: &[u8], slots: &mut [u16], x: Symbol) -> Parsed
+#[cycle(levels)]
+fn call(text: &[u8], slots: &mut [u16], x: Symbol) -> Result<Parsed, Symbol>
     requires { Sound text.now x × (x.number ≡ word) }
     ensures { CallBy text.now slots.old slots.new x result }
 {
-    let y = after(text, x);
-    if y.number != OPEN_ROUND {
-        return Parsed::Bad(y);
+    let bracket = x.after(text);
+    if bracket.number != OPEN_ROUND {
+        return Err(bracket);
     }
-    let z = after(text, y);
-    let number = function(text, x);
-    if z.number == CLOSE_ROUND {
-        write::bare(slots, x.at, number);
-        return Parsed::Tree {
+    let first = bracket.after(text);
+    let function = x.function(text);
+    if first.number == CLOSE_ROUND {
+        write::bare(slots, x.at, function);
+        return Ok(Parsed {
             root: x.at,
-            next: after(text, z),
-        };
+            next: first.after(text),
+        });
     }
-    match closed(text, arguments(text, slots, z)) {
-        Parsed::Tree { root, next } => {
-            write::call(slots, x.at, number, root);
-            Parsed::Tree { root: x.at, next }
-        }
-        Parsed::Bad(q) => Parsed::Bad(q),
-    }
+    let inside = arguments(text, slots, first)?;
+    let given = closed(text, inside)?;
+    write::call(slots, x.at, function, given.root);
+    Ok(Parsed {
+        root: x.at,
+        next: given.next,
+    })
 }
 
 // The arguments of a call, with the first comma as their root, if there is one.
-#[cycle(arguments_branches_call_expression_level_postfix_primary_tail_unary)]
-fn arguments(text: &[u8], slots: &mut [u16], x: Symbol) -> Parsed
+#[cycle(levels)]
+fn arguments(text: &[u8], slots: &mut [u16], x: Symbol) -> Result<Parsed, Symbol>
     requires { Sound text.now x }
     ensures { ArgumentsBy text.now slots.old slots.new x result }
 {
-    match expression(text, slots, x) {
-        Parsed::Tree { root, next } => {
-            if next.number != COMMA {
-                return Parsed::Tree { root, next };
-            }
-            match arguments(text, slots, after(text, next)) {
-                Parsed::Tree {
-                    root: rest,
-                    next: last,
-                } => {
-                    write::comma(slots, next.at, root, rest);
-                    Parsed::Tree {
-                        root: next.at,
-                        next: last,
-                    }
-                }
-                Parsed::Bad(y) => Parsed::Bad(y),
-            }
-        }
-        Parsed::Bad(y) => Parsed::Bad(y),
+    let first = expression(text, slots, x)?;
+    let comma = first.next;
+    if comma.number != COMMA {
+        return Ok(first);
     }
+    let rest = arguments(text, slots, comma.after(text))?;
+    write::comma(slots, comma.at, first.root, rest.root);
+    Ok(Parsed {
+        root: comma.at,
+        next: rest.next,
+    })
 }
 
 // The tree of a whole text.
-pub(crate) fn parse(text: &[u8], slots: &mut [u16]) -> Parsed
+pub(crate) fn parse(text: &[u8], slots: &mut [u16]) -> Result<Parsed, Symbol>
     ensures { WholeBy text.now slots.old slots.new result }
 {
-    match expression(text, slots, symbol_at(text, 0)) {
-        Parsed::Tree { root, next } => {
-            if next.number != END {
-                return Parsed::Bad(next);
-            }
-            Parsed::Tree { root, next }
-        }
-        Parsed::Bad(y) => Parsed::Bad(y),
+    let whole = expression(text, slots, symbol_at(text, 0))?;
+    if whole.next.number != END {
+        return Err(whole.next);
     }
+    Ok(whole)
 }

@@ -1,15 +1,18 @@
 // Tokens as the grammar sees them.
 ghost use Rattle.std.specs.Prelude.{◌≡◌};
-ghost use Rattle.lexer.specs.declared.token.Token.TheVariants.{Number, Word, Punctuator};
 ghost use Rattle.syntax.specs.Symbol.{number_of, symbol_at, is_literal, form_of, is_index, index_of, is_word, is_prefix, precedence_of};
 ghost use Rattle.syntax.specs.Symbol.{function_of, member_of};
 ghost use Rattle.syntax.specs.Inner.{Sound, Follows};
 
-use lexer::punctuator::{MINUS, NOT, PLUS};
+use lexer::punctuator::{
+    AND, DIVIDE, EQUAL, GREATER, GREATER_OR_EQUAL, LESS, LESS_OR_EQUAL, MINUS, NOT, OR, PLUS,
+    REMAINDER, TIMES, UNEQUAL,
+};
 use lexer::token::{Lexeme, Token, token_at};
 use value::name::{function_number, member_index};
 
-// A symbol's number, and where its token begins and ends. A punctuator has its own number.
+// A symbol's number, and where its token begins and ends. It is a number and not an enum, since the
+// grammar's theorems count symbols by it (`in_order`), and a tree has an operator by its number.
 #[derive(Clone, Copy)]
 pub(crate) struct Symbol {
     pub number: u8,
@@ -17,6 +20,7 @@ pub(crate) struct Symbol {
     pub end: usize,
 }
 
+// Punctuators have their own numbers, which are below these.
 const FIRST_INDEX: u8 = 22;
 
 const LAST_INDEX: u8 = 25;
@@ -37,41 +41,27 @@ pub(crate) const END: u8 = 36;
 
 const NONE: u8 = 37;
 
-fn digits_number(digits: u64, places: u8) -> u8
-    ensures { result ≡ number_of (Number digits places) }
-{
-    if (places == 0) & (digits < 4) {
-        FIRST_INDEX + (digits % 4) as u8
-    } else {
-        NUMBER
-    }
-}
+const INDICES: u64 = 4;
 
-fn word_number(k: u8) -> u8
-    ensures { result ≡ number_of (Word k) }
-{
-    if k < 6 { FIRST_WORD + k } else { WORD }
-}
-
-fn punctuator_number(k: u8) -> u8
-    ensures { result ≡ number_of (Punctuator k) }
-{
-    if k < FIRST_INDEX { k } else { NONE }
-}
+const LITERAL_WORDS: u8 = 6;
 
 fn number_of(token: Token) -> u8
     ensures { result ≡ number_of token }
 {
     match token {
-        Token::Number { digits, places } => digits_number(digits, places),
+        Token::Number { digits, places: 0 } if digits < INDICES => FIRST_INDEX + digits as u8,
+        Token::Number { .. } => NUMBER,
         Token::String => STRING,
+        Token::Word(k) if k < LITERAL_WORDS => FIRST_WORD + k,
+        Token::Word(_) => WORD,
         Token::Variable => VARIABLE,
-        Token::Word(k) => word_number(k),
-        Token::Punctuator(k) => punctuator_number(k),
+        Token::Punctuator(k) if k < FIRST_INDEX => k,
+        Token::Punctuator(_) => NONE,
     }
 }
 
 // The symbol at a place, after spaces.
+#[tactic(auto, unfolding(crate::specs::Symbol::symbol_at))]
 pub(crate) fn symbol_at(text: &[u8], from: usize) -> Symbol
     ensures { result ≡ symbol_at text.now from }
 {
@@ -94,90 +84,82 @@ pub(crate) fn symbol_at(text: &[u8], from: usize) -> Symbol
     }
 }
 
-// The symbol that follows another.
-pub(crate) fn after(text: &[u8], x: Symbol) -> Symbol
-    requires { Sound text.now x }
-    ensures { Follows text.now x result }
-{
-    symbol_at(text, x.end)
-}
-
-pub(crate) fn is_literal(x: Symbol) -> bool
-    ensures { result ≡ is_literal x }
-{
-    (FIRST_INDEX <= x.number) & (x.number <= LAST_LITERAL)
-}
-
-// Which literal a symbol is: a number, a string, or a word.
-pub(crate) fn form(x: Symbol) -> usize
-    ensures { result ≡ form_of x }
-{
-    if x.number < NUMBER {
-        0
-    } else {
-        (x.number - NUMBER) as usize
+impl Symbol {
+    // The symbol that follows.
+    pub(crate) fn after(self, text: &[u8]) -> Symbol
+        requires { Sound text.now self }
+        ensures { Follows text.now self result }
+    {
+        symbol_at(text, self.end)
     }
-}
 
-pub(crate) fn is_index(x: Symbol) -> bool
-    ensures { result ≡ is_index x }
-{
-    (FIRST_INDEX <= x.number) & (x.number <= LAST_INDEX)
-}
-
-pub(crate) fn index(x: Symbol) -> u8
-    ensures { result ≡ index_of x }
-{
-    if x.number < FIRST_INDEX {
-        0
-    } else {
-        x.number - FIRST_INDEX
+    pub(crate) fn is_literal(self) -> bool
+        ensures { result ≡ is_literal self }
+    {
+        matches!(self.number, FIRST_INDEX..=LAST_LITERAL)
     }
-}
 
-pub(crate) fn is_word(x: Symbol) -> bool
-    ensures { result ≡ is_word x }
-{
-    (FIRST_WORD <= x.number) & (x.number <= WORD)
-}
-
-pub(crate) fn is_prefix(x: Symbol) -> bool
-    ensures { result ≡ is_prefix x }
-{
-    ((x.number == PLUS) | (x.number == MINUS)) | (x.number == NOT)
-}
-
-// The level of a binary operator, from the one that binds most, and 0 for what is none.
-pub(crate) fn precedence(n: u8) -> u8
-    ensures { result ≡ precedence_of n }
-{
-    match n {
-        12..=14 => 1,
-        10 | 11 => 2,
-        6..=9 => 3,
-        4 | 5 => 4,
-        3 => 5,
-        2 => 6,
-        _ => 0,
+    // Which literal a symbol is: a number, a string, or a word.
+    pub(crate) fn form(self) -> usize
+        ensures { result ≡ form_of self }
+    {
+        usize::from(self.number.saturating_sub(NUMBER))
     }
-}
 
-// The number of the function that a word names.
-pub(crate) fn function(text: &[u8], x: Symbol) -> u8
-    requires { Sound text.now x }
-    ensures { result ≡ function_of text.now x }
-{
-    let at = x.at;
-    let end = x.end;
-    (function_number(&text[at..end]) % 256) as u8
-}
+    pub(crate) fn is_index(self) -> bool
+        ensures { result ≡ is_index self }
+    {
+        matches!(self.number, FIRST_INDEX..=LAST_INDEX)
+    }
 
-// The index of the component that a word picks.
-pub(crate) fn member(text: &[u8], x: Symbol) -> u8
-    requires { Sound text.now x }
-    ensures { result ≡ member_of text.now x }
-{
-    let at = x.at;
-    let end = x.end;
-    (member_index(&text[at..end]) % 256) as u8
+    pub(crate) fn index(self) -> u8
+        ensures { result ≡ index_of self }
+    {
+        self.number.saturating_sub(FIRST_INDEX)
+    }
+
+    pub(crate) fn is_word(self) -> bool
+        ensures { result ≡ is_word self }
+    {
+        matches!(self.number, FIRST_WORD..=WORD)
+    }
+
+    #[tactic(auto, using(crate::proofs::Law::Operators::by_ranges))]
+    pub(crate) fn is_prefix(self) -> bool
+        ensures { result ≡ is_prefix self }
+    {
+        matches!(self.number, PLUS | MINUS | NOT)
+    }
+
+    // The level of a binary operator, from the one that binds most, and 0 for what is none.
+    #[tactic(auto, using(crate::proofs::Law::Operators::by_ranges))]
+    pub(crate) fn precedence(self) -> usize
+        ensures { result ≡ precedence_of self.number }
+    {
+        match self.number {
+            TIMES | DIVIDE | REMAINDER => 1,
+            PLUS | MINUS => 2,
+            LESS | LESS_OR_EQUAL | GREATER | GREATER_OR_EQUAL => 3,
+            EQUAL | UNEQUAL => 4,
+            AND => 5,
+            OR => 6,
+            _ => 0,
+        }
+    }
+
+    // The number of the function that a word names.
+    pub(crate) fn function(self, text: &[u8]) -> u8
+        requires { Sound text.now self }
+        ensures { result ≡ function_of text.now self }
+    {
+        function_number(&text[self.at..self.end]) as u8
+    }
+
+    // The index of the component that a word picks.
+    pub(crate) fn member(self, text: &[u8]) -> u8
+        requires { Sound text.now self }
+        ensures { result ≡ member_of text.now self }
+    {
+        member_index(&text[self.at..self.end]) as u8
+    }
 }

@@ -1,9 +1,10 @@
 // What the crate syntax says of a text: a refusal, or the tree that it lays into slots.
 use cases::line;
-use lexer::bytes::has_word;
+use lexer::refusal::{Reason, Refusal};
 use printed::shown;
+use reports::case::Case;
 use reports::report;
-use syntax::judge::{Judgement, judge};
+use syntax::judge::judge;
 
 // What the slots hold before.
 const UNUSED: u16 = 0xABCD;
@@ -16,158 +17,95 @@ const PAGE: usize = 4200;
 
 const MOST_HEIGHT: usize = 64;
 
-// Whether the slots from one place up to another hold the same word.
-fn hold(slots: &[u16], from: usize, to: usize, word: u16) -> bool {
-    let mut i = from;
-    while i < slots.len() {
-        if to <= i {
-            return true;
-        }
-        if slots[i] != word {
-            return false;
-        }
-        i += 1;
-    }
-    true
+// Says what differs of a text.
+fn differs(case: &Case<'_, impl Print>, text: &[u8], what: &str) -> bool {
+    case.text_difference(text);
+    let _ = println!(case.rt; "{what}");
+    false
 }
 
 // Slots that are not the text's are left alone.
-fn rest_agrees(rt: &impl Print, name: &[u8], head: &[u8], text: &[u8], slots: &[u16]) -> bool {
-    if hold(slots, text.len(), slots.len(), UNUSED) {
-        return true;
-    }
-    report::text_difference(rt, name, head, text);
-    report::text(rt, b"slots behind the text are written\n");
-    false
+fn rest_agrees(case: &Case<'_, impl Print>, text: &[u8], slots: &[u16]) -> bool {
+    slots.iter().skip(text.len()).all(|slot| *slot == UNUSED)
+        || differs(case, text, "slots behind the text are written")
 }
 
 // After a refusal the text's slots are zero.
-fn clear_agrees(rt: &impl Print, name: &[u8], head: &[u8], text: &[u8], slots: &[u16]) -> bool {
-    if hold(slots, 0, text.len(), 0) {
-        return true;
-    }
-    report::text_difference(rt, name, head, text);
-    report::text(rt, b"slots of a refused text are not zero\n");
-    false
+fn clear_agrees(case: &Case<'_, impl Print>, text: &[u8], slots: &[u16]) -> bool {
+    slots.iter().take(text.len()).all(|slot| *slot == 0)
+        || differs(case, text, "slots of a refused text are not zero")
 }
 
-fn refusal_agrees(
-    rt: &impl Print,
-    name: &[u8],
-    head: &[u8],
-    text: &[u8],
-    number: u64,
-    place: u64,
-) -> bool {
-    let same = (line::number(head, 4, 5) == number) & (line::number(head, 6, 9) == place);
+fn refusal_agrees(case: &Case<'_, impl Print>, text: &[u8], refusal: Refusal) -> bool {
+    let number = u64::from(u8::from(refusal.reason));
+    let place = refusal.place as u64;
+    let same = (line::number(case.line, 4, 5) == number) & (line::number(case.line, 6, 9) == place);
     if same & (number != 0) {
         return true;
     }
-    report::text_difference(rt, name, head, text);
-    report::text(rt, b"got");
-    report::hex(rt, b" ", number, 1);
-    report::hex(rt, b" ", place, 3);
-    report::text(rt, b"\n");
+    case.text_difference(text);
+    let _ = println!(case.rt; "got {number:x} {place:03x}");
     false
 }
 
-fn page_agrees(
-    rt: &impl Print,
-    name: &[u8],
-    head: &[u8],
-    text: &[u8],
-    tree: &[u8],
-    shown: &[u8],
-) -> bool {
-    let same = (shown.len() == tree.len()) & has_word(shown, 0, tree);
-    if same & (line::number(head, 4, 5) == 0) {
+fn page_agrees(case: &Case<'_, impl Print>, text: &[u8], tree: &[u8], shown: &[u8]) -> bool {
+    if (shown == tree) & (line::number(case.line, 4, 5) == 0) {
         return true;
     }
-    report::text_difference(rt, name, head, text);
-    report::text(rt, b"got ");
-    report::text(rt, shown);
-    report::text(rt, b"\n");
+    case.text_difference(text);
+    let _ = print!(case.rt; "got ");
+    report::text(case.rt, shown);
+    let _ = println!(case.rt; "");
     false
 }
 
 fn tree_agrees(
-    rt: &impl Print,
-    name: &[u8],
-    head: &[u8],
+    case: &Case<'_, impl Print>,
     text: &[u8],
     tree: &[u8],
     slots: &[u16],
     root: usize,
-    page: &mut [u8],
 ) -> bool {
-    let end = shown::tree(page, 0, text, false, slots, root, MOST_HEIGHT);
-    if end < page.len() {
-        return page_agrees(rt, name, head, text, tree, &page[..end]);
+    let mut page = [0u8; PAGE];
+    let end = shown::tree(&mut page, 0, text, false, slots, root, MOST_HEIGHT);
+    if end < PAGE {
+        page_agrees(case, text, tree, &page[..end])
+    } else {
+        differs(case, text, "the tree is too long")
     }
-    report::text_difference(rt, name, head, text);
-    report::text(rt, b"the tree is too long\n");
-    false
 }
 
 fn judgement_agrees(
-    rt: &impl Print,
-    name: &[u8],
-    head: &[u8],
+    case: &Case<'_, impl Print>,
     text: &[u8],
     tree: &[u8],
     slots: &mut [u16],
 ) -> bool {
-    match judge(text, slots) {
-        Judgement::Fine { root } => {
-            let mut page = [0u8; PAGE];
-            tree_agrees(rt, name, head, text, tree, slots, root, &mut page)
-                & rest_agrees(rt, name, head, text, slots)
-        }
-        Judgement::Refused(refusal) => {
-            refusal_agrees(
-                rt,
-                name,
-                head,
-                text,
-                refusal.number as u64,
-                refusal.place as u64,
-            ) & clear_agrees(rt, name, head, text, slots)
-                & rest_agrees(rt, name, head, text, slots)
-        }
-    }
-}
-
-// Whether a text is refused for its slots.
-fn is_short(text: &[u8], slots: &mut [u16]) -> bool {
-    match judge(text, slots) {
-        Judgement::Fine { root: _ } => false,
-        Judgement::Refused(refusal) => (refusal.number == 10) & (refusal.place == 0),
-    }
+    let same = match judge(text, slots) {
+        Ok(root) => tree_agrees(case, text, tree, slots, root),
+        Err(refusal) => refusal_agrees(case, text, refusal) & clear_agrees(case, text, slots),
+    };
+    same & rest_agrees(case, text, slots)
 }
 
 // With a slot too few a text is refused, and the slots are left alone.
-fn short_agrees(rt: &impl Print, name: &[u8], head: &[u8], text: &[u8], slots: &mut [u16]) -> bool {
-    if is_short(text, slots) & hold(slots, 0, slots.len(), UNUSED) {
-        return true;
-    }
-    report::text_difference(rt, name, head, text);
-    report::text(rt, b"too few slots are not refused\n");
-    false
+fn short_agrees(case: &Case<'_, impl Print>, text: &[u8], slots: &mut [u16]) -> bool {
+    let refused = judge(text, slots).is_err_and(|refusal| (refusal.reason == Reason::Room)
+        & (refusal.place == 0));
+    refused & slots.iter().all(|slot| *slot == UNUSED)
+        || differs(case, text, "too few slots are not refused")
 }
 
 // The empty text needs no slot.
-fn room_agrees(rt: &impl Print, name: &[u8], head: &[u8], text: &[u8], slots: &mut [u16]) -> bool {
-    let n = text.len();
-    if 0 < n {
-        if n <= slots.len() {
-            return short_agrees(rt, name, head, text, &mut slots[..n - 1]);
-        }
+fn room_agrees(case: &Case<'_, impl Print>, text: &[u8], slots: &mut [u16]) -> bool {
+    if (0 < text.len()) & (text.len() <= slots.len()) {
+        short_agrees(case, text, &mut slots[..text.len() - 1])
+    } else {
+        true
     }
-    true
 }
 
-pub(crate) fn agrees(rt: &impl Print, name: &[u8], head: &[u8], text: &[u8], tree: &[u8]) -> bool {
+pub(crate) fn agrees(case: &Case<'_, impl Print>, text: &[u8], tree: &[u8]) -> bool {
     let mut slots = [UNUSED; SLOTS];
-    room_agrees(rt, name, head, text, &mut slots)
-        & judgement_agrees(rt, name, head, text, tree, &mut slots)
+    room_agrees(case, text, &mut slots) & judgement_agrees(case, text, tree, &mut slots)
 }

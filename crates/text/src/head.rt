@@ -12,7 +12,8 @@ pub fn is_feature(line: &[u8]) -> bool
     word::is_feature(&line[..end])
 }
 
-// Where the first line of a feature begins, or the input's end if there is none.
+// Where the first line of a feature begins, or the input's end if there is none. By places and not by
+// an iterator of lines, since the answer is a place.
 pub fn head_end(input: &[u8]) -> usize
     ensures is { result ≡ head_end input.now }
     ensures inside { result ≤ length input.now }

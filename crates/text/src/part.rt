@@ -8,8 +8,8 @@ pub const TAB: u8 = 9;
 
 pub const SPACE: u8 = 32;
 
-// Where a part lies in its text.
-#[derive(Clone, Copy)]
+// Where a part lies in its text. It is no `Range`, which can't be copied.
+#[derive(Clone, Copy, Debug, PartialEq, Eq)]
 pub struct Part {
     pub start: usize,
     pub end: usize,
@@ -19,27 +19,17 @@ pub struct Part {
 pub fn end(separator: u8, text: &[u8], at: usize) -> usize
     ensures { result ≡ end_from separator text.now at }
 {
-    let mut end = at;
-    while end < text.len() {
-        if text[end] == separator {
-            return end;
-        }
-        end += 1;
+    match text.get(at..) {
+        Some(rest) => at + rest.iter().take_while(|b| **b != separator).count(),
+        None => at,
     }
-    end
 }
 
 // How many parts a text has; an empty one has one, which is empty.
 pub fn count(separator: u8, text: &[u8]) -> usize
     ensures { result ≡ length (parted separator text.now) }
 {
-    let mut at = end(separator, text, 0);
-    let mut parts = 1;
-    while at < text.len() {
-        at = end(separator, text, at + 1);
-        parts += 1;
-    }
-    parts
+    1 + text.iter().filter(|b| **b == separator).count()
 }
 
 // The part with an index from 0 on, or the text's end if there are fewer.
@@ -49,8 +39,7 @@ pub fn nth(separator: u8, text: &[u8], index: usize) -> Part
     ensures inside { result.end ≤ length text.now }
 {
     let mut start = 0;
-    let mut left = index;
-    while 0 < left {
+    for _ in 0..index {
         let stop = end(separator, text, start);
         if text.len() <= stop {
             return Part {
@@ -59,7 +48,6 @@ pub fn nth(separator: u8, text: &[u8], index: usize) -> Part
             };
         }
         start = stop + 1;
-        left -= 1;
     }
     Part {
         start,

@@ -1,11 +1,10 @@
 -- Reading a tree back from slots: a node by its slot, and from nodes the tree, as deep as an allowance goes.
-use Rattle.std.specs.Prelude.{cond, List, ℕ, zero, suc, ◌-◌, eqb, ltb}
+use Rattle.std.specs.Prelude.{cond, List, ℕ, zero, suc, ◌-◌, eqb, ltb, Option, None, Some}
 use Rattle.tree.specs.Tree.{number_form, Tree, literal, variable, unary, binary, conditional, bare, call, pick, Arguments, last, next}
 use Rattle.tree.specs.Slots.{links, tag_at, link_at, left_at, variable_tag, first_function_tag, question_tag, comma_tag, first_pick_tag}
 use Rattle.tree.specs.declared.node.Node.{Node}
 use Rattle.tree.specs.declared.node.Node.TheVariants.{Literal, Variable, Unary, Binary, Conditional, Bare, Call, Pick}
-use Rattle.tree.specs.declared.node.Argument.{Argument}
-use Rattle.tree.specs.declared.node.Argument.TheVariants.{Last, Next}
+use Rattle.tree.specs.declared.node.Comma.{Comma}
 
 -- a node with a part after it, or none, by its tag and its link
 unfoldable pub prefix_node : ℕ → ℕ → Node
@@ -29,14 +28,14 @@ node_at w p =
     (cond (ltb (tag_at w p) first_pick_tag) (infix_node w p)
     (Pick (tag_at w p - first_pick_tag) (link_at w p)))
 
--- an argument at a place: the last one, or one with a comma after it
-unfoldable pub argument_at : List ℕ → ℕ → Argument
-argument_at w p = cond (eqb (tag_at w p) comma_tag) (Next (left_at w p) (link_at w p)) Last
+-- the comma at a place of arguments, with one before it and the others after it; without one, the last stands there
+unfoldable pub argument_at : List ℕ → ℕ → Option Comma
+argument_at w p = cond (eqb (tag_at w p) comma_tag) (Some (record { first = left_at w p; rest = link_at w p })) None
 
 -- the arguments at a place, n of them and one more at most, by the tree at each
-abbrev pub argued : Argument → ℕ → (ℕ → Tree) → (ℕ → Arguments) → Arguments
-argued Last p tree rest = last (tree p)
-argued (Next e xs) p tree rest = next (tree e) p (rest xs)
+abbrev pub argued : Option Comma → ℕ → (ℕ → Tree) → (ℕ → Arguments) → Arguments
+argued None p tree rest = last (tree p)
+argued (Some c) p tree rest = next (tree c.first) p (rest c.rest)
 
 unfoldable pub arguments_at : (ℕ → Tree) → ℕ → List ℕ → ℕ → Arguments
 unfolding argument_at

@@ -1,5 +1,5 @@
 // A slot: a tag of six bits and a link of ten.
-ghost use Rattle.std.specs.Prelude.{◌≡◌, ◌+◌, ◌*◌, ◌-◌, ◌/◌, ◌%◌, get_or};
+ghost use Rattle.std.specs.Prelude.{◌≡◌, get_or};
 ghost use Rattle.tree.specs.Slots.{word, tag_at, link_at, left_at, put, set_link, join};
 
 const TAGS: usize = 64;
@@ -30,32 +30,26 @@ fn packed(tag: usize, link: usize) -> u16
 pub(crate) fn word_at(slots: &[u16], at: usize) -> u16
     ensures { result ≡ get_or slots.now at 0 }
 {
-    if at < slots.len() { slots[at] } else { 0 }
+    slots.get(at).copied().unwrap_or(0)
 }
 
 pub(crate) fn tag_at(slots: &[u16], at: usize) -> usize
     ensures { result ≡ tag_at slots.now at }
 {
-    (word_at(slots, at) as usize) / LINKS
+    usize::from(word_at(slots, at)) / LINKS
 }
 
 pub(crate) fn link_at(slots: &[u16], at: usize) -> usize
     ensures { result ≡ link_at slots.now at }
 {
-    (word_at(slots, at) as usize) % LINKS
-}
-
-fn place_before(at: usize) -> usize
-    ensures { result ≡ at - 1 }
-{
-    if at == 0 { 0 } else { at - 1 }
+    usize::from(word_at(slots, at)) % LINKS
 }
 
 // The link of the slot before a place.
 pub(crate) fn left_at(slots: &[u16], at: usize) -> usize
     ensures { result ≡ left_at slots.now at }
 {
-    link_at(slots, place_before(at))
+    link_at(slots, at.saturating_sub(1))
 }
 
 // The slot of a node with no part or with parts on one side. Past the end nothing is written.
@@ -80,5 +74,5 @@ pub(crate) fn set_joint(slots: &mut [u16], at: usize, tag: usize, left: usize, r
     ensures { slots.new ≡ join slots.old at tag left right }
 {
     set_slot(slots, at, tag, right);
-    set_link(slots, place_before(at), left);
+    set_link(slots, at.saturating_sub(1), left);
 }

@@ -23,13 +23,13 @@ pub fn variable(slots: &mut [u16], at: usize, number: usize)
 pub fn unary(slots: &mut [u16], at: usize, operator: u8, part: usize)
     ensures { slots.new ≡ put slots.old at operator part }
 {
-    set_slot(slots, at, operator as usize, part);
+    set_slot(slots, at, usize::from(operator), part);
 }
 
 pub fn binary(slots: &mut [u16], at: usize, operator: u8, left: usize, right: usize)
     ensures { slots.new ≡ join slots.old at (operator_tag operator) left right }
 {
-    set_joint(slots, at, QUESTION + operator as usize, left, right);
+    set_joint(slots, at, QUESTION + usize::from(operator), left, right);
 }
 
 // The `:` of a conditional, between its branches.
@@ -50,14 +50,14 @@ pub fn conditional(slots: &mut [u16], at: usize, test: usize, colon: usize)
 pub fn bare(slots: &mut [u16], at: usize, function: u8)
     ensures { slots.new ≡ put slots.old at (function_tag function) 0 }
 {
-    set_slot(slots, at, FIRST_FUNCTION + function as usize, 0);
+    set_slot(slots, at, FIRST_FUNCTION + usize::from(function), 0);
 }
 
 // A call: its arguments begin at the first comma, or at the only one of them.
 pub fn call(slots: &mut [u16], at: usize, function: u8, arguments: usize)
     ensures { slots.new ≡ put slots.old at (function_tag function) arguments }
 {
-    set_slot(slots, at, FIRST_FUNCTION + function as usize, arguments);
+    set_slot(slots, at, FIRST_FUNCTION + usize::from(function), arguments);
 }
 
 // The comma between an argument and the others.
@@ -70,16 +70,12 @@ pub fn comma(slots: &mut [u16], at: usize, first: usize, rest: usize)
 pub fn pick(slots: &mut [u16], at: usize, index: u8, part: usize)
     ensures { slots.new ≡ put slots.old at (pick_tag index) part }
 {
-    set_slot(slots, at, FIRST_PICK + index as usize, part);
+    set_slot(slots, at, FIRST_PICK + usize::from(index), part);
 }
 
 // Makes slots zero.
 pub fn clear(slots: &mut [u16])
     ensures { slots.new ≡ replicate (length slots.old) 0 }
 {
-    let mut i = 0;
-    while i < slots.len() {
-        slots[i] = 0;
-        i += 1;
-    }
+    slots.fill(0);
 }

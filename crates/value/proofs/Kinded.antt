@@ -1,4 +1,5 @@
 -- The kind of what an operation means is the one that its rule gives, and it is a fault exactly where the rule faults.
+use Rattle.std.specs.Prelude.{Option, Some, None}
 use mathlib.Core.Path.{◌≡◌, refl, ◌∙◌, ap}
 use mathlib.Core.Bool.{Bool}
 use mathlib.Core.List.{List, map}
@@ -9,8 +10,6 @@ use Rattle.kind.specs.Kind.{eq_kind, dimension_of}
 use Rattle.kind.specs.Rule.{rule_of}
 use Rattle.kind.specs.declared.kind.Kind.{Kind}
 use Rattle.kind.specs.declared.kind.Kind.TheVariants as kind
-use Rattle.kind.specs.declared.kind.Ruled.{Ruled}
-use Rattle.kind.specs.declared.kind.Ruled.TheVariants.{Fault, Gives}
 use Rattle.kind.specs.declared.operation.Constructor.{Constructor}
 use Rattle.kind.specs.declared.operation.Constructor.TheVariants as make
 use Rattle.kind.specs.declared.operation.Product.{Product}
@@ -21,8 +20,6 @@ use Rattle.kind.proofs.Law.Choices.{kind-is}
 use Rattle.kind.proofs.Law.Signatures.{every-result}
 use Rattle.value.specs.Value.{kind_of}
 use Rattle.value.specs.Meaning.{by_component, constructed, product_of, made_of, outcome, operand, meaning}
-use Rattle.value.specs.declared.apply.Outcome.{Outcome}
-use Rattle.value.specs.declared.apply.Outcome.TheVariants as outcome-of
 use Rattle.value.specs.declared.value.Span.{Span}
 use Rattle.value.specs.declared.value.Value.{Value}
 
@@ -68,42 +65,42 @@ component-kind kind.Vec2 g h = refl
 component-kind kind.Vec3 g h = refl
 component-kind kind.Vec4 g h = refl
 
-constructed-kind : (text : Span → List ℕ) (f : Constructor) (a b c d : Value) → kind_of (constructed text f a b c d) ≡ made_by f
-constructed-kind text make.Vec2 a b c d = refl
-constructed-kind text make.Vec3 a b c d = refl
-constructed-kind text make.Vec4 a b c d = refl
-constructed-kind text make.Rgb a b c d = refl
-constructed-kind text make.Rgba a b c d = refl
-constructed-kind text make.Color a b c d = refl
+constructed-kind : (text : Span → List ℕ) (f : Constructor) (vs : List Value) → kind_of (constructed text f vs) ≡ made_by f
+constructed-kind text make.Vec2 vs = refl
+constructed-kind text make.Vec3 vs = refl
+constructed-kind text make.Vec4 vs = refl
+constructed-kind text make.Rgb vs = refl
+constructed-kind text make.Rgba vs = refl
+constructed-kind text make.Color vs = refl
 
 product-kind : (f : Product) (a b : Value) → kind_of (product_of f a b) ≡ product_kind f
 product-kind Dot a b = refl
 product-kind Cross a b = refl
 
-made-kind : (text : Span → List ℕ) (o : Operation) (k : Kind) (a b c d : Value) → T (result o k) → kind_of (made_of text o k a b c d) ≡ k
-made-kind text (op.Unary f) k a b c d h = component-kind k _ h
-made-kind text (op.Binary f) k a b c d h = component-kind k _ h
-made-kind text (op.Ternary f) k a b c d h = component-kind k _ h
-made-kind text (op.Logic f) k a b c d h = kind-is kind.Boolean k h
-made-kind text (op.Order f) k a b c d h = kind-is kind.Boolean k h
-made-kind text (op.Equality f) k a b c d h = kind-is kind.Boolean k h
-made-kind text (op.Test f) k a b c d h = kind-is kind.Boolean k h
-made-kind text (op.Constructor f) k a b c d h = constructed-kind text f a b c d ∙ kind-is (made_by f) k h
-made-kind text (op.Product f) k a b c d h = product-kind f a b ∙ kind-is (product_kind f) k h
-made-kind text (op.Pick m) k a b c d h = kind-is kind.Number k h
+made-kind : (text : Span → List ℕ) (o : Operation) (k : Kind) (vs : List Value) → T (result o k) → kind_of (made_of text o k vs) ≡ k
+made-kind text (op.Unary f) k vs h = component-kind k _ h
+made-kind text (op.Binary f) k vs h = component-kind k _ h
+made-kind text (op.Ternary f) k vs h = component-kind k _ h
+made-kind text (op.Logic f) k vs h = kind-is kind.Boolean k h
+made-kind text (op.Order f) k vs h = kind-is kind.Boolean k h
+made-kind text (op.Equality f) k vs h = kind-is kind.Boolean k h
+made-kind text (op.Test f) k vs h = kind-is kind.Boolean k h
+made-kind text (op.Constructor f) k vs h = constructed-kind text f vs ∙ kind-is (made_by f) k h
+made-kind text (op.Product f) k vs h = product-kind f (operand 0 vs) (operand 1 vs) ∙ kind-is (product_kind f) k h
+made-kind text (op.Pick m) k vs h = kind-is kind.Number k h
 
 -- ---- the theorem
 
 -- the kind of a value, or a fault
-abbrev pub ruled : Outcome → Ruled
-ruled outcome-of.Fault = Fault
-ruled (outcome-of.Worked v) = Gives (kind_of v)
+abbrev pub ruled : Option Value → Option Kind
+ruled None = None
+ruled (Some v) = Some (kind_of v)
 
 pub kinded : (text : Span → List ℕ) (o : Operation) (vs : List Value) → ruled (meaning text o vs) ≡ rule_of o (map kind_of vs)
 unfolding meaning
 kinded text o vs = go (rule_of o (map kind_of vs)) (every-result result tt o (map kind_of vs))
   where
-    go : (r : Ruled) → ((k : Kind) → r ≡ Gives k → T (result o k)) →
-        ruled (outcome r (λ k. made_of text o k (operand 0 vs) (operand 1 vs) (operand 2 vs) (operand 3 vs))) ≡ r
-    go Fault h = refl
-    go (Gives k) h = ap Gives (made-kind text o k (operand 0 vs) (operand 1 vs) (operand 2 vs) (operand 3 vs) (h k refl))
+    go : (r : Option Kind) → ((k : Kind) → r ≡ Some k → T (result o k)) →
+        ruled (outcome r (λ k. made_of text o k vs)) ≡ r
+    go None h = refl
+    go (Some k) h = ap Some (made-kind text o k vs (h k refl))

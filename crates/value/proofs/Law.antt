@@ -1,2 +1,3 @@
 pub mod Names
-pub mod Values
+pub mod Operands
+pub mod Colours

@@ -3,4 +3,3 @@ pub mod Scalar
 pub mod Equality
 pub mod Meaning
 pub mod Name
-pub mod Inner

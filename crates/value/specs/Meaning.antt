@@ -1,5 +1,6 @@
 -- What operators, functions and picks make of values: page 01, "Kinds and meaning". `text` gives the bytes of a string.
-use Rattle.std.specs.Prelude.{Bool, not, cond, ◌&&◌, ◌||◌, List, map, ◌++◌, ℕ, zero, suc, get_or, Float}
+use Rattle.std.specs.Prelude.{Bool, not, cond, ◌&&◌, ◌||◌, List, map, ℕ, zero, suc, get_or, Float, Option, Some, None}
+use Rattle.std.specs.List.{flat_map}
 use Rattle.std.specs.Float.{binary64}
 use Rattle.std.specs.Float.Ieee.{add, sub, mul}
 use Rattle.number.specs.Arithmetic.{nought}
@@ -8,8 +9,6 @@ use Rattle.kind.specs.Operation.{index_of}
 use Rattle.kind.specs.Rule.{rule_of}
 use Rattle.kind.specs.declared.kind.Kind.{Kind}
 use Rattle.kind.specs.declared.kind.Kind.TheVariants as kind
-use Rattle.kind.specs.declared.kind.Ruled.{Ruled}
-use Rattle.kind.specs.declared.kind.Ruled.TheVariants.{Fault, Gives}
 use Rattle.kind.specs.declared.operation.Logic.{Logic}
 use Rattle.kind.specs.declared.operation.Logic.TheVariants.{Not, And, Or}
 use Rattle.kind.specs.declared.operation.Equality.{Equality}
@@ -23,13 +22,9 @@ use Rattle.kind.specs.declared.operation.Operation.TheVariants as op
 use Rattle.colour.specs.Colour.{rgb_of, rgba_of, of_bytes, with_alpha}
 use Rattle.colour.specs.Text.{colour_of}
 use Rattle.colour.specs.declared.colour.Colour.{Colour}
-use Rattle.colour.specs.declared.text.Named.{Named}
-use Rattle.colour.specs.declared.text.Named.TheVariants.{Known, Unknown}
 use Rattle.value.specs.Value.{kind_of, components_of, at, truth, span}
 use Rattle.value.specs.Scalar.{unary_of, binary_of, ternary_of, order_of, test_of}
 use Rattle.value.specs.Equality.{equal_of}
-use Rattle.value.specs.declared.apply.Outcome.{Outcome}
-use Rattle.value.specs.declared.apply.Outcome.TheVariants as outcome-of
 use Rattle.value.specs.declared.value.Span.{Span}
 use Rattle.value.specs.declared.value.Value.{Value}
 use Rattle.value.specs.declared.value.Value.TheVariants.{Undefined, Boolean, Number, Vec2, Vec3, Vec4}
@@ -81,18 +76,22 @@ product_of Cross p q = Vec3 (cross_at p q 1 2) (cross_at p q 2 0) (cross_at p q 
 
 -- ---- constructors
 
+-- an operand by its place; one that is not there is Undefined
+abbrev pub operand : ℕ → List Value → Value
+operand i vs = get_or vs i Undefined
+
 -- The components of a vector's operands, one operand after the other. A vector takes as many as it needs, so that what a longer operand has
 -- more is dropped; a Number alone stands at each (004, the list of constructors).
-unfoldable pub joined_at : Value → Value → Value → Value → ℕ → Float
-joined_at a b c d i = get_or (components_of a ++ components_of b ++ components_of c ++ components_of d) i (at 0 a)
+unfoldable pub joined_at : List Value → ℕ → Float
+joined_at vs i = get_or (flat_map components_of vs) i (at 0 (operand 0 vs))
 
 -- white: a text that names no colour is refused before (6)
 abbrev pub white : Colour
 white = of_bytes 255 255 255
 
-abbrev pub or_white : Named → Colour
-or_white (Known c) = c
-or_white Unknown = white
+abbrev pub or_white : Option Colour → Colour
+or_white (Some c) = c
+or_white None = white
 
 -- with the alpha that is given, if one is
 unfoldable pub alpha_or : Colour → Value → Colour
@@ -106,39 +105,36 @@ color_of text s a = cond (eq_kind kind.String (kind_of s)) (alpha_or (or_white (
 abbrev pub vec4_of : Colour → Value
 vec4_of c = Vec4 c.red c.green c.blue c.alpha
 
-abbrev pub constructed : (Span → List ℕ) → Constructor → Value → Value → Value → Value → Value
-constructed text make.Vec2 a b c d = Vec2 (joined_at a b c d 0) (joined_at a b c d 1)
-constructed text make.Vec3 a b c d = Vec3 (joined_at a b c d 0) (joined_at a b c d 1) (joined_at a b c d 2)
-constructed text make.Vec4 a b c d = Vec4 (joined_at a b c d 0) (joined_at a b c d 1) (joined_at a b c d 2) (joined_at a b c d 3)
-constructed text make.Rgb a b c d = vec4_of (rgb_of (at 0 a) (at 0 b) (at 0 c))
-constructed text make.Rgba a b c d = vec4_of (rgba_of (at 0 a) (at 0 b) (at 0 c) (at 0 d))
-constructed text make.Color a b c d = vec4_of (color_of text a b)
+abbrev pub constructed : (Span → List ℕ) → Constructor → List Value → Value
+constructed text make.Vec2 vs = Vec2 (joined_at vs 0) (joined_at vs 1)
+constructed text make.Vec3 vs = Vec3 (joined_at vs 0) (joined_at vs 1) (joined_at vs 2)
+constructed text make.Vec4 vs = Vec4 (joined_at vs 0) (joined_at vs 1) (joined_at vs 2) (joined_at vs 3)
+constructed text make.Rgb vs = vec4_of (rgb_of (at 0 (operand 0 vs)) (at 0 (operand 1 vs)) (at 0 (operand 2 vs)))
+constructed text make.Rgba vs =
+    vec4_of (rgba_of (at 0 (operand 0 vs)) (at 0 (operand 1 vs)) (at 0 (operand 2 vs)) (at 0 (operand 3 vs)))
+constructed text make.Color vs = vec4_of (color_of text (operand 0 vs) (operand 1 vs))
 
 -- ---- every operation
 
--- What an operation makes of operands that it takes, of the kind that its rule gives. An operand that is not there is Undefined.
-abbrev pub made_of : (Span → List ℕ) → Operation → Kind → Value → Value → Value → Value → Value
-made_of text (op.Unary f) k a b c d = by_component k (λ i. unary_of f (at i a))
-made_of text (op.Binary f) k a b c d = by_component k (λ i. binary_of f (at i a) (at i b))
-made_of text (op.Ternary f) k a b c d = by_component k (λ i. ternary_of f (at i a) (at i b) (at i c))
-made_of text (op.Logic f) k a b c d = Boolean (logic_of f a b)
-made_of text (op.Order f) k a b c d = Boolean (order_of f (at 0 a) (at 0 b))
-made_of text (op.Equality f) k a b c d = Boolean (equality_of text f a b)
-made_of text (op.Test f) k a b c d = Boolean (test_of f (at 0 a))
-made_of text (op.Constructor f) k a b c d = constructed text f a b c d
-made_of text (op.Product f) k a b c d = product_of f a b
-made_of text (op.Pick m) k a b c d = Number (at (index_of m) a)
+-- What an operation makes of operands that it takes, of the kind that its rule gives.
+abbrev pub made_of : (Span → List ℕ) → Operation → Kind → List Value → Value
+made_of text (op.Unary f) k vs = by_component k (λ i. unary_of f (at i (operand 0 vs)))
+made_of text (op.Binary f) k vs = by_component k (λ i. binary_of f (at i (operand 0 vs)) (at i (operand 1 vs)))
+made_of text (op.Ternary f) k vs =
+    by_component k (λ i. ternary_of f (at i (operand 0 vs)) (at i (operand 1 vs)) (at i (operand 2 vs)))
+made_of text (op.Logic f) k vs = Boolean (logic_of f (operand 0 vs) (operand 1 vs))
+made_of text (op.Order f) k vs = Boolean (order_of f (at 0 (operand 0 vs)) (at 0 (operand 1 vs)))
+made_of text (op.Equality f) k vs = Boolean (equality_of text f (operand 0 vs) (operand 1 vs))
+made_of text (op.Test f) k vs = Boolean (test_of f (at 0 (operand 0 vs)))
+made_of text (op.Constructor f) k vs = constructed text f vs
+made_of text (op.Product f) k vs = product_of f (operand 0 vs) (operand 1 vs)
+made_of text (op.Pick m) k vs = Number (at (index_of m) (operand 0 vs))
 
 -- a fault, or the value that is made at the kind which the rule gives
-abbrev pub outcome : Ruled → (Kind → Value) → Outcome
-outcome Fault made = outcome-of.Fault
-outcome (Gives k) made = outcome-of.Worked (made k)
-
--- an operand by its place
-abbrev pub operand : ℕ → List Value → Value
-operand i vs = get_or vs i Undefined
+abbrev pub outcome : Option Kind → (Kind → Value) → Option Value
+outcome None made = None
+outcome (Some k) made = Some (made k)
 
 -- What an operation means on values, any count of them: a fault where the rule on their kinds faults, and else what it makes.
-unfoldable pub meaning : (Span → List ℕ) → Operation → List Value → Outcome
-meaning text o vs =
-    outcome (rule_of o (map kind_of vs)) (λ k. made_of text o k (operand 0 vs) (operand 1 vs) (operand 2 vs) (operand 3 vs))
+unfoldable pub meaning : (Span → List ℕ) → Operation → List Value → Option Value
+meaning text o vs = outcome (rule_of o (map kind_of vs)) (λ k. made_of text o k vs)

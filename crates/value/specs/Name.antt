@@ -1,5 +1,5 @@
 -- The names of functions and members: page 01, "Kinds and meaning" and "Tokens and grammar".
-use Rattle.std.specs.Prelude.{cond, List, [], ◌∷◌, map, ℕ, ◌%◌, ltb, length, drop}
+use Rattle.std.specs.Prelude.{cond, List, [], ◌∷◌, map, ℕ, ◌%◌, ltb, length, drop, Option, Some, None}
 use Rattle.lexer.specs.Bytes.{place_in, ascii}
 use Rattle.kind.specs.declared.operation.Unary.TheVariants.{Abs, Sign, Floor, Ceil, Round, Fract}
 use Rattle.kind.specs.declared.operation.Binary.TheVariants.{Min, Max}
@@ -10,8 +10,6 @@ use Rattle.kind.specs.declared.operation.Product.TheVariants.{Dot, Cross}
 use Rattle.kind.specs.declared.operation.Member.TheVariants.{X, Y, Z, W}
 use Rattle.kind.specs.declared.operation.Operation.{Operation}
 use Rattle.kind.specs.declared.operation.Operation.TheVariants as op
-use Rattle.value.specs.declared.name.Found.{Found}
-use Rattle.value.specs.declared.name.Found.TheVariants.{Known, Unknown}
 
 -- a function's name and what it is
 pub data Function : Type 0 where
@@ -51,12 +49,12 @@ function_names = map name functions
 abbrev pub operation : Function → Operation
 operation (function w o) = o
 
-abbrev pub first : List Operation → Found
-first [] = Unknown
-first (o ∷ os) = Known o
+abbrev pub first : List Operation → Option Operation
+first [] = None
+first (o ∷ os) = Some o
 
 -- by a function's number
-unfoldable pub function_at : ℕ → Found
+unfoldable pub function_at : ℕ → Option Operation
 function_at n = first (drop n (map operation functions))
 
 -- "Members are x y z w and r g b a."
@@ -72,5 +70,5 @@ unfoldable pub member_index : List ℕ → ℕ
 member_index w = cond (ltb (place_in member_names w) (length member_names)) (place_in member_names w % components) components
 
 -- by the index of a component, "`[0]` to `[3]`"
-unfoldable pub pick_at : ℕ → Found
+unfoldable pub pick_at : ℕ → Option Operation
 pick_at i = first (drop i (op.Pick X ∷ op.Pick Y ∷ op.Pick Z ∷ op.Pick W ∷ []))

@@ -1,6 +1,6 @@
 -- Operations on numbers: page 01, "Kinds and meaning". "Numbers are binary64 and each operation rounds once."
-use Rattle.std.specs.Prelude.{Bool, true, false, Float}
-use Rattle.std.specs.Float.{nan, inf, fin, binary64}
+use Rattle.std.specs.Prelude.{Bool, Float}
+use Rattle.std.specs.Float.{float_is_finite, binary64}
 use Rattle.std.specs.Float.Ieee.{neg, add, sub, mul, div, rem, lt, le, is_nan}
 use Rattle.number.specs.Arithmetic.{abs_of, sign_of, min_of, max_of, clamp_of, mix_of}
 use Rattle.number.specs.Rounding.{floor_of, ceil_of, round_of, fract_of}
@@ -46,11 +46,6 @@ order_of LessEqual x y = le x y
 order_of Greater x y = lt y x
 order_of GreaterEqual x y = le y x
 
-abbrev pub is_finite : Float → Bool
-is_finite nan = false
-is_finite (inf s) = false
-is_finite (fin s m e) = true
-
 abbrev pub test_of : Test → Float → Bool
 test_of IsNan x = is_nan x
-test_of IsFinite x = is_finite x
+test_of IsFinite x = float_is_finite x

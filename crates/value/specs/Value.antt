@@ -6,6 +6,7 @@ use Rattle.lexer.specs.Token.{meaning}
 use Rattle.kind.specs.declared.kind.Kind.{Kind}
 use Rattle.kind.specs.declared.kind.Kind.TheVariants as kind
 use Rattle.colour.specs.declared.colour.Colour.{Colour}
+use Rattle.value.specs.declared.texts.Texts.{Texts}
 use Rattle.value.specs.declared.value.Span.{Span}
 use Rattle.value.specs.declared.value.Value.{Value}
 use Rattle.value.specs.declared.value.Value.TheVariants.{Undefined, Null, Boolean, Number, String, Vec2, Vec3, Vec4}
@@ -25,6 +26,10 @@ kind_of (Vec4 x y z w) = kind.Vec4
 -- is the lexer's.
 unfoldable pub text_in : List ℕ → List ℕ → Span → List ℕ
 text_in style feature s = cond s.literal (meaning (slice s.start s.end style)) (slice s.start s.end feature)
+
+-- the bytes of a string by the texts that strings lie in
+abbrev pub text_of : Texts → Span → List ℕ
+text_of t = text_in t.style.now t.feature.now
 
 abbrev pub components_of : Value → List Float
 components_of Undefined = []

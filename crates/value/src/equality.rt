@@ -1,58 +1,35 @@
 // `===`: values of unlike kinds differ, strings are compared by bytes, and vectors by components.
 ghost use Rattle.std.specs.Prelude.{◌≡◌};
 ghost use Rattle.lexer.specs.Bytes.{same};
-ghost use Rattle.value.specs.Value.{text_in};
-ghost use Rattle.value.specs.Equality.{parts_equal, equal_of};
+ghost use Rattle.value.specs.Value.{text_of};
+ghost use Rattle.value.specs.Equality.{equal_of};
 
-use crate::value::{Span, Value, component, is_true, kind_of, span_of};
-use kind::kind::is;
-use lexer::bytes::same_part;
+use crate::texts::Texts;
+use crate::value::{Span, Value};
 
 // Whether two strings are the same: each lies in the style's text or in the feature's.
-pub fn same_text(style: &[u8], feature: &[u8], a: Span, b: Span) -> bool
-    ensures { result ≡ same (text_in style.now feature.now a)
-        (text_in style.now feature.now b) }
+pub fn same_text(texts: Texts, a: Span, b: Span) -> bool
+    ensures { result ≡ same (text_of texts.entry a) (text_of texts.entry b) }
 {
-    if a.literal {
-        if b.literal {
-            same_part(style, a.start, a.end, style, b.start, b.end)
-        } else {
-            same_part(style, a.start, a.end, feature, b.start, b.end)
-        }
-    } else if b.literal {
-        same_part(feature, a.start, a.end, style, b.start, b.end)
-    } else {
-        same_part(feature, a.start, a.end, feature, b.start, b.end)
-    }
+    texts.bytes(a) == texts.bytes(b)
 }
 
-// Whether the parts of a value equal those of another of its kind.
-fn parts_equal(style: &[u8], feature: &[u8], v: Value, w: Value) -> bool
-    ensures { result ≡ parts_equal (text_in style.now feature.now) v w }
+#[tactic(auto, unfolding(crate::specs::Equality::equal_of))]
+pub fn equal(texts: Texts, v: Value, w: Value) -> bool
+    ensures { result ≡ equal_of (text_of texts.entry) v w }
 {
-    match v {
-        Value::Undefined => true,
-        Value::Null => true,
-        Value::Boolean(b) => b == is_true(w),
-        Value::Number(x) => x == component(w, 0),
-        Value::String(s) => same_text(style, feature, s, span_of(w)),
-        Value::Vec2(x, y) => (x == component(w, 0)) & (y == component(w, 1)),
-        Value::Vec3(x, y, z) => {
-            (x == component(w, 0)) & ((y == component(w, 1)) & (z == component(w, 2)))
-        }
-        Value::Vec4(x, y, z, u) => {
-            let rest = (z == component(w, 2)) & (u == component(w, 3));
-            (x == component(w, 0)) & ((y == component(w, 1)) & rest)
-        }
-    }
-}
-
-pub fn equal(style: &[u8], feature: &[u8], v: Value, w: Value) -> bool
-    ensures { result ≡ equal_of (text_in style.now feature.now) v w }
-{
-    if is(kind_of(v), kind_of(w)) {
-        parts_equal(style, feature, v, w)
-    } else {
-        false
+    match (v, w) {
+        (Value::Undefined, Value::Undefined) => true,
+        (Value::Null, Value::Null) => true,
+        (Value::Boolean(a), Value::Boolean(b)) => a == b,
+        (Value::Number(x), Value::Number(a)) => x == a,
+        (Value::String(s), Value::String(t)) => same_text(texts, s, t),
+        (Value::Vec2(x, y), Value::Vec2(a, b)) => (x == a) & (y == b),
+        (Value::Vec3(x, y, z), Value::Vec3(a, b, c)) => (x == a) & (y == b) & (z == c),
+        (Value::Vec4(x, y, z, w), Value::Vec4(a, b, c, d)) => (x == a)
+            & (y == b)
+            & (z == c)
+            & (w == d),
+        _ => false,
     }
 }

@@ -3,8 +3,9 @@
 
 pub mod apply;
 pub mod equality;
-mod join;
 mod make;
 pub mod name;
+mod operands;
 pub mod scalar;
+pub mod texts;
 pub mod value;

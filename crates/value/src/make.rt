@@ -1,85 +1,46 @@
-// What an operation makes of operands that it takes. An operand that is not there is Undefined.
-ghost use Rattle.std.specs.Prelude.{◌≡◌};
-ghost use Rattle.std.proofs.Math.Seq.{slice};
-ghost use Rattle.colour.specs.Text.{colour_of};
-ghost use Rattle.value.specs.Value.{text_in};
-ghost use Rattle.value.specs.Meaning.{by_component, logic_of, equality_of, dot_of, cross_at, product_of, or_white, alpha_or, color_of};
+// What an operation makes of operands that it takes.
+ghost use Rattle.std.specs.Prelude.{◌≡◌, ℕ, ◌<◌, Float};
+ghost use Rattle.value.specs.Value.{text_of};
+ghost use Rattle.value.specs.Meaning.{by_component, logic_of, equality_of, dot_of, cross_at, product_of, alpha_or, color_of};
 ghost use Rattle.value.specs.Meaning.{vec4_of, constructed, made_of};
-ghost use Rattle.value.specs.Inner.{scalar_at};
 
 use crate::equality::equal;
-use crate::join::first_four;
+use crate::operands::{joined_at, operand};
 use crate::scalar::{binary, order, ternary, test, unary};
-use crate::value::{Span, Value, component, is_true};
+use crate::texts::Texts;
+use crate::value::Value;
 use colour::colour::Colour;
-use colour::text::Named;
 use kind::kind::Kind;
 use kind::operation::{Constructor, Equality, Logic, Operation, Product, index};
-use lexer::bytes::least;
 
-// ---- by component
-
-fn scalar_at(operation: Operation, a: Value, b: Value, c: Value, i: u8) -> f64
-    ensures { result ≡ scalar_at operation a b c i }
-{
-    match operation {
-        Operation::Unary(f) => unary(f, component(a, i)),
-        Operation::Binary(f) => binary(f, component(a, i), component(b, i)),
-        Operation::Ternary(f) => ternary(f, component(a, i), component(b, i), component(c, i)),
-        Operation::Logic(_) => 0.0,
-        Operation::Order(_) => 0.0,
-        Operation::Equality(_) => 0.0,
-        Operation::Test(_) => 0.0,
-        Operation::Constructor(_) => 0.0,
-        Operation::Product(_) => 0.0,
-        Operation::Pick(_) => 0.0,
-    }
-}
-
-// The value of a kind whose components the operation gives.
-fn by_component(operation: Operation, kind: Kind, a: Value, b: Value, c: Value) -> Value
-    ensures { result ≡ by_component kind (scalar_at operation a b c) }
+// The value of a kind with the components that a function gives.
+fn by_component<F: Fn(u8) -> f64>(kind: Kind, f: F) -> Value
+    requires { F.IsAlwaysCallable f }
+    ensures { (g : ℕ → Float) → ((i : ℕ) (x : Float) → F.post f i x → x ≡ g i) → result ≡ by_component kind g }
 {
     match kind {
-        Kind::Undefined => Value::Undefined,
-        Kind::Null => Value::Undefined,
-        Kind::Boolean => Value::Undefined,
-        Kind::Number => Value::Number(scalar_at(operation, a, b, c, 0)),
-        Kind::String => Value::Undefined,
-        Kind::Vec2 => Value::Vec2(
-            scalar_at(operation, a, b, c, 0),
-            scalar_at(operation, a, b, c, 1),
-        ),
-        Kind::Vec3 => Value::Vec3(
-            scalar_at(operation, a, b, c, 0),
-            scalar_at(operation, a, b, c, 1),
-            scalar_at(operation, a, b, c, 2),
-        ),
-        Kind::Vec4 => Value::Vec4(
-            scalar_at(operation, a, b, c, 0),
-            scalar_at(operation, a, b, c, 1),
-            scalar_at(operation, a, b, c, 2),
-            scalar_at(operation, a, b, c, 3),
-        ),
+        Kind::Number => Value::Number(f(0)),
+        Kind::Vec2 => Value::Vec2(f(0), f(1)),
+        Kind::Vec3 => Value::Vec3(f(0), f(1), f(2)),
+        Kind::Vec4 => Value::Vec4(f(0), f(1), f(2), f(3)),
+        _ => Value::Undefined,
     }
 }
-
-// ---- truth values
 
 fn logic(f: Logic, a: Value, b: Value) -> bool
     ensures { result ≡ logic_of f a b }
 {
     match f {
-        Logic::Not => !is_true(a),
-        Logic::And => is_true(a) & is_true(b),
-        Logic::Or => is_true(a) | is_true(b),
+        Logic::Not => !a.is_true(),
+        Logic::And => a.is_true() && b.is_true(),
+        Logic::Or => a.is_true() || b.is_true(),
     }
 }
 
-fn equality(style: &[u8], feature: &[u8], f: Equality, a: Value, b: Value) -> bool
-    ensures { result ≡ equality_of (text_in style.now feature.now) f a b }
+fn equality(texts: Texts, f: Equality, a: Value, b: Value) -> bool
+    ensures { result ≡ equality_of (text_of texts.entry) f a b }
 {
-    let same = equal(style, feature, a, b);
+    let same = equal(texts, a, b);
     match f {
         Equality::Equal => same,
         Equality::NotEqual => !same,
@@ -89,29 +50,28 @@ fn equality(style: &[u8], feature: &[u8], f: Equality, a: Value, b: Value) -> bo
 // ---- products
 
 // The products of the components, added left to right.
+#[tactic(auto, unfolding(crate::specs::Meaning::dot_of))]
 fn dot(a: Value, b: Value) -> f64
     ensures { result ≡ dot_of a b }
 {
     match a {
-        Value::Undefined => 0.0,
-        Value::Null => 0.0,
-        Value::Boolean(_) => 0.0,
-        Value::Number(x) => x * component(b, 0),
-        Value::String(_) => 0.0,
-        Value::Vec2(x, y) => x * component(b, 0) + y * component(b, 1),
-        Value::Vec3(x, y, z) => { x * component(b, 0) + y * component(b, 1) + z * component(b, 2) }
+        Value::Number(x) => x * b.component(0),
+        Value::Vec2(x, y) => x * b.component(0) + y * b.component(1),
+        Value::Vec3(x, y, z) => x * b.component(0) + y * b.component(1) + z * b.component(2),
         Value::Vec4(x, y, z, w) => {
-            let three = x * component(b, 0) + y * component(b, 1) + z * component(b, 2);
-            three + w * component(b, 3)
+            let three = x * b.component(0) + y * b.component(1) + z * b.component(2);
+            three + w * b.component(3)
         }
+        _ => 0.0,
     }
 }
 
 // p.j q.k - p.k q.j
+#[tactic(auto, unfolding(crate::specs::Meaning::cross_at))]
 fn cross_at(p: Value, q: Value, j: u8, k: u8) -> f64
     ensures { result ≡ cross_at p q j k }
 {
-    component(p, j) * component(q, k) - component(p, k) * component(q, j)
+    p.component(j) * q.component(k) - p.component(k) * q.component(j)
 }
 
 fn product(f: Product, a: Value, b: Value) -> Value
@@ -129,63 +89,28 @@ fn product(f: Product, a: Value, b: Value) -> Value
 
 // ---- constructors
 
-// White, if the text names no colour: a style with such a text is refused before.
-fn or_white(named: Named) -> Colour
-    ensures { result ≡ or_white named }
-{
-    match named {
-        Named::Known(c) => c,
-        Named::Unknown => Colour::WHITE,
-    }
-}
-
-// The colour that a part of a text names.
-fn colour_at(text: &[u8], start: usize, end: usize) -> Colour
-    ensures { result ≡ or_white (colour_of (slice start end text.now)) }
-{
-    let stop = least(end, text.len());
-    let begin = least(start, stop);
-    or_white(Colour::from_text(&text[begin..stop]))
-}
-
-fn colour_in(style: &[u8], feature: &[u8], s: Span) -> Colour
-    ensures { result ≡ or_white (colour_of (text_in style.now feature.now s)) }
-{
-    if s.literal {
-        colour_at(style, s.start, s.end)
-    } else {
-        colour_at(feature, s.start, s.end)
-    }
-}
-
+// A colour with an alpha, if one is given.
+#[tactic(auto, unfolding(crate::specs::Meaning::alpha_or))]
 fn alpha_or(c: Colour, a: Value) -> Colour
     ensures { result ≡ alpha_or c a }
 {
     match a {
-        Value::Undefined => c,
-        Value::Null => c,
-        Value::Boolean(_) => c,
         Value::Number(x) => c.with_alpha(x),
-        Value::String(_) => c,
-        Value::Vec2(_, _) => c,
-        Value::Vec3(_, _, _) => c,
-        Value::Vec4(_, _, _, _) => c,
+        _ => c,
     }
 }
 
 // White, or the colour of a text, with an alpha if one is given.
-fn color(style: &[u8], feature: &[u8], a: Value, b: Value) -> Colour
-    ensures { result ≡ color_of (text_in style.now feature.now) a b }
+fn color(texts: Texts, a: Value, b: Value) -> Colour
+    ensures { result ≡ color_of (text_of texts.entry) a b }
 {
     match a {
-        Value::Undefined => Colour::WHITE,
-        Value::Null => Colour::WHITE,
-        Value::Boolean(_) => Colour::WHITE,
-        Value::Number(_) => Colour::WHITE,
-        Value::String(s) => alpha_or(colour_in(style, feature, s), b),
-        Value::Vec2(_, _) => Colour::WHITE,
-        Value::Vec3(_, _, _) => Colour::WHITE,
-        Value::Vec4(_, _, _, _) => Colour::WHITE,
+        // A style with a text that names no colour is refused before.
+        Value::String(s) => alpha_or(
+            Colour::from_text(texts.bytes(s)).unwrap_or(Colour::WHITE),
+            b,
+        ),
+        _ => Colour::WHITE,
     }
 }
 
@@ -195,66 +120,45 @@ fn vec4_of(c: Colour) -> Value
     Value::Vec4(c.red, c.green, c.blue, c.alpha)
 }
 
-fn construct(
-    style: &[u8],
-    feature: &[u8],
-    f: Constructor,
-    a: Value,
-    b: Value,
-    c: Value,
-    d: Value,
-) -> Value
-    ensures { result ≡ constructed (text_in style.now feature.now) f a b c d }
+fn construct(texts: Texts, f: Constructor, operands: &[Value]) -> Value
+    ensures { result ≡ constructed (text_of texts.entry) f operands.now }
 {
+    let first = |place| operand(operands, place).component(0);
+    let joined = |i| joined_at(operands, i);
     match f {
-        Constructor::Vec2 => {
-            let n = first_four(a, b, c, d);
-            Value::Vec2(n.x, n.y)
-        }
-        Constructor::Vec3 => {
-            let n = first_four(a, b, c, d);
-            Value::Vec3(n.x, n.y, n.z)
-        }
-        Constructor::Vec4 => {
-            let n = first_four(a, b, c, d);
-            Value::Vec4(n.x, n.y, n.z, n.w)
-        }
-        Constructor::Rgb => vec4_of(Colour::rgb(component(a, 0), component(b, 0), component(c, 0))),
-        Constructor::Rgba => vec4_of(Colour::rgba(
-            component(a, 0),
-            component(b, 0),
-            component(c, 0),
-            component(d, 0),
-        )),
-        Constructor::Color => vec4_of(color(style, feature, a, b)),
+        Constructor::Vec2 => Value::Vec2(joined(0), joined(1)),
+        Constructor::Vec3 => Value::Vec3(joined(0), joined(1), joined(2)),
+        Constructor::Vec4 => Value::Vec4(joined(0), joined(1), joined(2), joined(3)),
+        Constructor::Rgb => vec4_of(Colour::rgb(first(0), first(1), first(2))),
+        Constructor::Rgba => vec4_of(Colour::rgba(first(0), first(1), first(2), first(3))),
+        Constructor::Color => vec4_of(color(texts, operand(operands, 0), operand(operands, 1))),
     }
 }
 
 // ---- every operation
 
 // The value that an operation makes, of the kind that its rule gives.
-pub(crate) fn make(
-    style: &[u8],
-    feature: &[u8],
-    operation: Operation,
-    kind: Kind,
-    a: Value,
-    b: Value,
-    c: Value,
-    d: Value,
-) -> Value
-    ensures { result ≡ made_of (text_in style.now feature.now) operation kind a b c d }
+pub(crate) fn make(texts: Texts, operation: Operation, kind: Kind, operands: &[Value]) -> Value
+    ensures { result ≡ made_of (text_of texts.entry) operation kind operands.now }
 {
+    let a = operand(operands, 0);
+    let b = operand(operands, 1);
+    let c = operand(operands, 2);
     match operation {
-        Operation::Unary(_) => by_component(operation, kind, a, b, c),
-        Operation::Binary(_) => by_component(operation, kind, a, b, c),
-        Operation::Ternary(_) => by_component(operation, kind, a, b, c),
+        Operation::Unary(f) => by_component(kind, |i| unary(f, a.component(i))),
+        Operation::Binary(f) => by_component(kind, |i| binary(f, a.component(i), b.component(i))),
+        Operation::Ternary(f) => {
+            by_component(
+                kind,
+                |i| ternary(f, a.component(i), b.component(i), c.component(i)),
+            )
+        }
         Operation::Logic(f) => Value::Boolean(logic(f, a, b)),
-        Operation::Order(f) => Value::Boolean(order(f, component(a, 0), component(b, 0))),
-        Operation::Equality(f) => Value::Boolean(equality(style, feature, f, a, b)),
-        Operation::Test(f) => Value::Boolean(test(f, component(a, 0))),
-        Operation::Constructor(f) => construct(style, feature, f, a, b, c, d),
+        Operation::Order(f) => Value::Boolean(order(f, a.component(0), b.component(0))),
+        Operation::Equality(f) => Value::Boolean(equality(texts, f, a, b)),
+        Operation::Test(f) => Value::Boolean(test(f, a.component(0))),
+        Operation::Constructor(f) => construct(texts, f, operands),
         Operation::Product(f) => product(f, a, b),
-        Operation::Pick(member) => Value::Number(component(a, index(member))),
+        Operation::Pick(member) => Value::Number(a.component(index(member))),
     }
 }

@@ -6,13 +6,7 @@ ghost use Rattle.value.specs.Name.{function_names, function_at, member_index, pi
 use kind::operation::{Binary, Constructor, Member, Operation, Product, Ternary, Test, Unary};
 use words::table::number_in;
 
-#[derive(Clone, Copy)]
-pub enum Found {
-    Known(Operation),
-    Unknown,
-}
-
-// The number of a function's name, or 20 for any other word.
+// The number of a function's name, or 20 for any other word, which the tree holds too.
 pub fn function_number(word: &[u8]) -> usize
     ensures { result ≡ place_in function_names word.now }
 {
@@ -23,32 +17,34 @@ pub fn function_number(word: &[u8]) -> usize
     )
 }
 
-pub fn function_at(number: usize) -> Found
+// In the order of page 01; the number of a function is its place here.
+const FUNCTIONS: [Operation; 20] = [
+    Operation::Constructor(Constructor::Vec2),
+    Operation::Constructor(Constructor::Vec3),
+    Operation::Constructor(Constructor::Vec4),
+    Operation::Constructor(Constructor::Rgb),
+    Operation::Constructor(Constructor::Rgba),
+    Operation::Constructor(Constructor::Color),
+    Operation::Test(Test::IsNan),
+    Operation::Test(Test::IsFinite),
+    Operation::Unary(Unary::Abs),
+    Operation::Unary(Unary::Sign),
+    Operation::Unary(Unary::Floor),
+    Operation::Unary(Unary::Ceil),
+    Operation::Unary(Unary::Round),
+    Operation::Unary(Unary::Fract),
+    Operation::Binary(Binary::Min),
+    Operation::Binary(Binary::Max),
+    Operation::Ternary(Ternary::Clamp),
+    Operation::Ternary(Ternary::Mix),
+    Operation::Product(Product::Dot),
+    Operation::Product(Product::Cross),
+];
+
+pub fn function_at(number: usize) -> Option<Operation>
     ensures { result ≡ function_at number }
 {
-    match number {
-        0 => Found::Known(Operation::Constructor(Constructor::Vec2)),
-        1 => Found::Known(Operation::Constructor(Constructor::Vec3)),
-        2 => Found::Known(Operation::Constructor(Constructor::Vec4)),
-        3 => Found::Known(Operation::Constructor(Constructor::Rgb)),
-        4 => Found::Known(Operation::Constructor(Constructor::Rgba)),
-        5 => Found::Known(Operation::Constructor(Constructor::Color)),
-        6 => Found::Known(Operation::Test(Test::IsNan)),
-        7 => Found::Known(Operation::Test(Test::IsFinite)),
-        8 => Found::Known(Operation::Unary(Unary::Abs)),
-        9 => Found::Known(Operation::Unary(Unary::Sign)),
-        10 => Found::Known(Operation::Unary(Unary::Floor)),
-        11 => Found::Known(Operation::Unary(Unary::Ceil)),
-        12 => Found::Known(Operation::Unary(Unary::Round)),
-        13 => Found::Known(Operation::Unary(Unary::Fract)),
-        14 => Found::Known(Operation::Binary(Binary::Min)),
-        15 => Found::Known(Operation::Binary(Binary::Max)),
-        16 => Found::Known(Operation::Ternary(Ternary::Clamp)),
-        17 => Found::Known(Operation::Ternary(Ternary::Mix)),
-        18 => Found::Known(Operation::Product(Product::Dot)),
-        19 => Found::Known(Operation::Product(Product::Cross)),
-        _ => Found::Unknown,
-    }
+    FUNCTIONS.get(number).copied()
 }
 
 // The index of the component that a member's name picks, or 4 for any other word.
@@ -59,14 +55,15 @@ pub fn member_index(word: &[u8]) -> usize
     if place < 8 { place % 4 } else { 4 }
 }
 
-pub fn pick_at(index: usize) -> Found
+const PICKS: [Operation; 4] = [
+    Operation::Pick(Member::X),
+    Operation::Pick(Member::Y),
+    Operation::Pick(Member::Z),
+    Operation::Pick(Member::W),
+];
+
+pub fn pick_at(index: usize) -> Option<Operation>
     ensures { result ≡ pick_at index }
 {
-    match index {
-        0 => Found::Known(Operation::Pick(Member::X)),
-        1 => Found::Known(Operation::Pick(Member::Y)),
-        2 => Found::Known(Operation::Pick(Member::Z)),
-        3 => Found::Known(Operation::Pick(Member::W)),
-        _ => Found::Unknown,
-    }
+    PICKS.get(index).copied()
 }

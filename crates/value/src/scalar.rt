@@ -58,9 +58,8 @@ pub fn order(f: Order, x: f64, y: f64) -> bool
 pub fn test(f: Test, x: f64) -> bool
     ensures { result ≡ test_of f x }
 {
-    let infinity = 1.0 / 0.0;
     match f {
-        Test::IsNan => x != x,
-        Test::IsFinite => (x < infinity) & (-infinity < x),
+        Test::IsNan => x.is_nan(),
+        Test::IsFinite => x.is_finite(),
     }
 }

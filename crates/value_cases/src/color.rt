@@ -1,46 +1,53 @@
 // Cases of the constructor color: a line has up to two arguments, a literal of the style's text and
-// an alpha, and the vec4 that is given.
+// an alpha, and the vec4 that is given. The style's text stands behind the line.
 use crate::{doubles, values};
 use cases::line;
 use kind::operation::{Constructor, Operation};
 use number::bits::from_bits;
-use reports::report;
-use value::apply::{Outcome, apply0, apply1, apply2};
-use value::value::{Span, Value, colour_of};
+use reports::case::Case;
+use reports::read;
+use std::io::Read;
+use value::apply::apply;
+use value::texts::Texts;
+use value::value::{Span, Value};
+
+pub(crate) const FORM: &[u8; 125] = b"h hhh hhhhhhhhhhhhhhhh hhhhhhhhhhhhhhhh hhhhhhhhhhhhhhhh \
+      hhhhhhhhhhhhhhhh hhhhhhhhhhhhhhhh hhhhhhhhhhhhhhhh hhhhhhhhhhhhhhhh\n";
 
 // The number of the kind vec4.
 const VEC4: u64 = 7;
 
-pub(crate) fn is_well_formed(head: &[u8]) -> bool {
-    line::fits(
-        head,
-        b"h hhh hhhhhhhhhhhhhhhh hhhhhhhhhhhhhhhh hhhhhhhhhhhhhhhh \
-          hhhhhhhhhhhhhhhh hhhhhhhhhhhhhhhh hhhhhhhhhhhhhhhh hhhhhhhhhhhhhhhh\n",
-    ) & (line::byte(head, 0) < b'3')
-}
-
-fn given(head: &[u8], style: &[u8]) -> Outcome {
+fn given(line: &[u8], style: &[u8]) -> Option<Value> {
     let color = Operation::Constructor(Constructor::Color);
     let word = Value::String(Span {
         literal: true,
-        start: line::number(head, 6, 22) as usize,
-        end: line::number(head, 23, 39) as usize,
+        start: line::number(line, 6, 22) as usize,
+        end: line::number(line, 23, 39) as usize,
     });
-    let alpha = Value::Number(from_bits(line::number(head, 40, 56)));
-    let count = line::byte(head, 0);
-    match count {
-        b'0' => apply0(style, b"", color),
-        b'1' => apply1(style, b"", color, word),
-        _ => apply2(style, b"", color, word, alpha),
+    let alpha = Value::Number(from_bits(line::number(line, 40, 56)));
+    let texts = Texts {
+        style,
+        feature: b"",
+    };
+    match line::byte(line, 0) {
+        b'0' => apply(texts, color, &[]),
+        b'1' => apply(texts, color, &[word]),
+        _ => apply(texts, color, &[word, alpha]),
     }
 }
 
-pub(crate) fn agrees(rt: &impl Print, name: &[u8], head: &[u8], style: &[u8]) -> bool {
-    let got = values::of_outcome(given(head, style));
-    if (values::kind_number(got) == VEC4) & doubles::agree(head, 57, colour_of(got)) {
-        return true;
+pub(crate) fn agrees(case: &Case<'_, impl Print>, file: &mut impl Read) -> Option<bool> {
+    if b'2' < line::byte(case.line, 0) {
+        return None;
     }
-    report::text_difference(rt, name, head, style);
-    values::print(rt, got);
-    false
+    let mut room = [0u8; read::MOST];
+    let style = read::text(file, &mut room, line::number(case.line, 2, 5) as usize)?;
+    let got = values::columns(given(case.line, style));
+    let [red, green, blue, alpha] = doubles::of_line(case.line, 57);
+    if got == [VEC4, red, green, blue, alpha] {
+        return Some(true);
+    }
+    case.text_difference(style);
+    values::print(case.rt, got);
+    Some(false)
 }

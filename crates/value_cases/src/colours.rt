@@ -2,46 +2,28 @@
 use crate::doubles;
 use cases::line;
 use colour::colour::Colour;
-use colour::text::Named;
-use reports::report;
+use reports::case::Case;
+use reports::{read, report};
+use std::io::Read;
 
-// What a line has in place of a colour.
-const NOTHING: Colour = Colour {
-    red: 0.0,
-    green: 0.0,
-    blue: 0.0,
-    alpha: 0.0,
-};
+pub(crate) const FORM: &[u8; 74] =
+    b"hhh h hhhhhhhhhhhhhhhh hhhhhhhhhhhhhhhh hhhhhhhhhhhhhhhh hhhhhhhhhhhhhhhh\n";
 
-pub(crate) fn is_well_formed(head: &[u8]) -> bool {
-    line::fits(
-        head,
-        b"hhh h hhhhhhhhhhhhhhhh hhhhhhhhhhhhhhhh hhhhhhhhhhhhhhhh hhhhhhhhhhhhhhhh\n",
-    )
-}
-
-fn colour_agrees(
-    rt: &impl Print,
-    name: &[u8],
-    head: &[u8],
-    text: &[u8],
-    mark: u8,
-    c: Colour,
-) -> bool {
-    if (line::byte(head, 4) == mark) & doubles::agree(head, 6, c) {
-        return true;
+pub(crate) fn agrees(case: &Case<'_, impl Print>, file: &mut impl Read) -> Option<bool> {
+    let mut room = [0u8; read::MOST];
+    let text = read::text(file, &mut room, line::number(case.line, 0, 3) as usize)?;
+    // A line has zeros in place of a colour.
+    let (mark, got) = match Colour::from_text(text) {
+        Some(colour) => (b'1', doubles::of_colour(colour)),
+        None => (b'0', [0; 4]),
+    };
+    if (line::byte(case.line, 4) == mark) & (doubles::of_line(case.line, 6) == got) {
+        return Some(true);
     }
-    report::text_difference(rt, name, head, text);
-    report::text(rt, b"got ");
-    report::text(rt, &[mark]);
-    doubles::print(rt, c);
-    report::text(rt, b"\n");
-    false
-}
-
-pub(crate) fn agrees(rt: &impl Print, name: &[u8], head: &[u8], text: &[u8]) -> bool {
-    match Colour::from_text(text) {
-        Named::Known(c) => colour_agrees(rt, name, head, text, b'1', c),
-        Named::Unknown => colour_agrees(rt, name, head, text, b'0', NOTHING),
-    }
+    case.text_difference(text);
+    report::text(case.rt, b"got ");
+    report::text(case.rt, &[mark]);
+    doubles::print(case.rt, got);
+    let _ = println!(case.rt; "");
+    Some(false)
 }

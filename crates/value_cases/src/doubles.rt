@@ -1,41 +1,44 @@
-// Four doubles of a line with single spaces between, which are a colour's.
+// The patterns of four doubles, which are a colour's.
 ghost use Rattle.std.specs.Prelude.{◌≤◌};
 
 use cases::line;
 use colour::colour::Colour;
 use number::bits::{from_bits, to_bits};
-use reports::report;
 
-fn pattern(head: &[u8], at: usize) -> u64
-    requires { at ≤ 119 }
-{
-    line::number(head, at, at + 16)
-}
-
-pub(crate) fn colour(head: &[u8], at: usize) -> Colour
+// Those of a line, with single spaces between.
+pub(crate) fn of_line(line: &[u8], at: usize) -> [u64; 4]
     requires { at ≤ 68 }
 {
+    [
+        line::number(line, at, at + 16),
+        line::number(line, at + 17, at + 33),
+        line::number(line, at + 34, at + 50),
+        line::number(line, at + 51, at + 67),
+    ]
+}
+
+pub(crate) fn of_colour(colour: Colour) -> [u64; 4] {
+    let Colour {
+        red,
+        green,
+        blue,
+        alpha,
+    } = colour;
+    [to_bits(red), to_bits(green), to_bits(blue), to_bits(alpha)]
+}
+
+pub(crate) fn colour(patterns: [u64; 4]) -> Colour {
+    let [red, green, blue, alpha] = patterns;
     Colour {
-        red: from_bits(pattern(head, at)),
-        green: from_bits(pattern(head, at + 17)),
-        blue: from_bits(pattern(head, at + 34)),
-        alpha: from_bits(pattern(head, at + 51)),
+        red: from_bits(red),
+        green: from_bits(green),
+        blue: from_bits(blue),
+        alpha: from_bits(alpha),
     }
 }
 
-// Whether the line has the colour's patterns.
-pub(crate) fn agree(head: &[u8], at: usize, c: Colour) -> bool
-    requires { at ≤ 68 }
-{
-    (pattern(head, at) == to_bits(c.red))
-        & (pattern(head, at + 17) == to_bits(c.green))
-        & (pattern(head, at + 34) == to_bits(c.blue))
-        & (pattern(head, at + 51) == to_bits(c.alpha))
-}
-
-pub(crate) fn print(rt: &impl Print, c: Colour) {
-    report::hex(rt, b" ", to_bits(c.red), 16);
-    report::hex(rt, b" ", to_bits(c.green), 16);
-    report::hex(rt, b" ", to_bits(c.blue), 16);
-    report::hex(rt, b" ", to_bits(c.alpha), 16);
+pub(crate) fn print(rt: &impl Print, patterns: [u64; 4]) {
+    for pattern in patterns {
+        let _ = print!(rt; " {pattern:016x}");
+    }
 }

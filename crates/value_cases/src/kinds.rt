@@ -3,27 +3,27 @@ use cases::line;
 use kind::kind::{Kind, number};
 use kind::set::Kinds;
 
-// Whether the digit at a place is that of a kind.
-pub(crate) fn is_known(head: &[u8], at: usize) -> bool {
-    line::byte(head, at) < b'8'
-}
+// In the order of their digits.
+pub(crate) const KINDS: [Kind; 8] = [
+    Kind::Undefined,
+    Kind::Null,
+    Kind::Boolean,
+    Kind::Number,
+    Kind::String,
+    Kind::Vec2,
+    Kind::Vec3,
+    Kind::Vec4,
+];
 
-pub(crate) fn of_line(head: &[u8], at: usize) -> Kind {
-    let digit = line::byte(head, at);
-    match digit {
-        b'0' => Kind::Undefined,
-        b'1' => Kind::Null,
-        b'2' => Kind::Boolean,
-        b'3' => Kind::Number,
-        b'4' => Kind::String,
-        b'5' => Kind::Vec2,
-        b'6' => Kind::Vec3,
-        _ => Kind::Vec4,
-    }
+// The kind of the hex digit at a place.
+pub(crate) fn of_line(line: &[u8], at: usize) -> Option<Kind> {
+    KINDS
+        .get(line::number(line, at, at.saturating_add(1)) as usize)
+        .copied()
 }
 
 pub(crate) fn digit(k: Kind) -> u8 {
-    line::low_byte(b'0' as u64 + number(k) as u64)
+    b'0'.wrapping_add(number(k))
 }
 
 pub(crate) fn of_mask(mask: u64) -> Kinds {
@@ -39,17 +39,13 @@ pub(crate) fn of_mask(mask: u64) -> Kinds {
     }
 }
 
-fn bit_if(b: bool, bit: u64) -> u64 {
-    if b { bit } else { 0 }
-}
-
 pub(crate) fn mask(set: Kinds) -> u64 {
-    bit_if(set.undefined, 1)
-        | bit_if(set.null, 2)
-        | bit_if(set.boolean, 4)
-        | bit_if(set.number, 8)
-        | bit_if(set.string, 16)
-        | bit_if(set.vec2, 32)
-        | bit_if(set.vec3, 64)
-        | bit_if(set.vec4, 128)
+    u64::from(set.undefined)
+        | u64::from(set.null) << 1
+        | u64::from(set.boolean) << 2
+        | u64::from(set.number) << 3
+        | u64::from(set.string) << 4
+        | u64::from(set.vec2) << 5
+        | u64::from(set.vec3) << 6
+        | u64::from(set.vec4) << 7
 }

@@ -1,39 +1,52 @@
 // Cases of a word as the name of a function and as a member's.
 use crate::operations;
 use cases::line;
-use reports::report;
-use value::name::{Found, function_at, function_number, member_index, pick_at};
+use kind::operation::Operation;
+use reports::case::Case;
+use reports::read;
+use std::io::Read;
+use value::name::{function_at, function_number, member_index, pick_at};
 
-pub(crate) fn is_well_formed(head: &[u8]) -> bool {
-    line::fits(head, b"hhh hh hh h hh\n")
-}
+pub(crate) const FORM: &[u8; 15] = b"hhh hh hh h hh\n";
 
 // The operation's number, or how many there are.
-fn operation_number(found: Found) -> u64 {
-    match found {
-        Found::Known(operation) => operations::number(operation),
-        Found::Unknown => operations::COUNT,
-    }
+fn operation_number(found: Option<Operation>) -> u64 {
+    found.map_or(
+        operations::COUNT as u64,
+        |operation| operations::number(operation),
+    )
 }
 
-pub(crate) fn agrees(rt: &impl Print, name: &[u8], head: &[u8], word: &[u8]) -> bool {
+// The word's place in the table of functions and the operation there, and the same of members.
+fn found(word: &[u8]) -> [u64; 4] {
     let function = function_number(word);
     let member = member_index(word);
-    let called = operation_number(function_at(function));
-    let picked = operation_number(pick_at(member));
-    let same = (function as u64 == line::number(head, 4, 6))
-        & (called == line::number(head, 7, 9))
-        & (member as u64 == line::number(head, 10, 11))
-        & (picked == line::number(head, 12, 14));
-    if same {
-        return true;
+    [
+        function as u64,
+        operation_number(function_at(function)),
+        member as u64,
+        operation_number(pick_at(member)),
+    ]
+}
+
+fn wanted(line: &[u8]) -> [u64; 4] {
+    [
+        line::number(line, 4, 6),
+        line::number(line, 7, 9),
+        line::number(line, 10, 11),
+        line::number(line, 12, 14),
+    ]
+}
+
+pub(crate) fn agrees(case: &Case<'_, impl Print>, file: &mut impl Read) -> Option<bool> {
+    let mut room = [0u8; read::MOST];
+    let word = read::text(file, &mut room, line::number(case.line, 0, 3) as usize)?;
+    let got = found(word);
+    if got == wanted(case.line) {
+        return Some(true);
     }
-    report::text_difference(rt, name, head, word);
-    report::text(rt, b"got");
-    report::hex(rt, b" ", function as u64, 2);
-    report::hex(rt, b" ", called, 2);
-    report::hex(rt, b" ", member as u64, 1);
-    report::hex(rt, b" ", picked, 2);
-    report::text(rt, b"\n");
-    false
+    case.text_difference(word);
+    let [function, called, member, picked] = got;
+    let _ = println!(case.rt; "got {function:02x} {called:02x} {member:x} {picked:02x}");
+    Some(false)
 }

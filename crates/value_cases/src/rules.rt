@@ -1,70 +1,64 @@
 // Cases of what an operation gives for kinds: a line has the operation, how many operands there
 // are, the kinds of all but the last, and what is given for each kind of the last.
+ghost use Rattle.std.specs.Prelude.{◌≤◌};
+
+use crate::kinds::KINDS;
 use crate::{kinds, operations};
 use cases::line;
-use kind::choice::Operands;
-use kind::kind::{Kind, Ruled, number};
+use kind::kind::{Kind, number};
+use kind::operation::Operation;
 use kind::rule::rule;
+use reports::case::Case;
 use reports::report;
 
-pub(crate) fn is_well_formed(head: &[u8]) -> bool {
-    line::fits(head, b"hhhhhhh ????????\n")
-        & operations::is_known(head)
-        & (line::byte(head, 2) < b'6')
-        & kinds::is_known(head, 3)
-        & kinds::is_known(head, 4)
-        & kinds::is_known(head, 5)
-        & kinds::is_known(head, 6)
+pub(crate) const FORM: &[u8; 17] = b"hhhhhhh ????????\n";
+
+// One more than any operation takes.
+const MOST_OPERANDS: usize = 5;
+
+// The kinds of a line are those of all operands but the last.
+fn given(operation: Operation, count: usize, kinds: &[Kind; 4], last: Kind) -> Option<Kind>
+    requires { count ≤ MOST_OPERANDS }
+{
+    let before = count.saturating_sub(1);
+    let mut operands = [last; MOST_OPERANDS];
+    operands[..before].copy_from_slice(&kinds[..before]);
+    rule(operation, &operands[..count])
 }
 
-fn operands(head: &[u8], last: Kind) -> Operands {
-    let k = kinds::of_line(head, 3);
-    let l = kinds::of_line(head, 4);
-    let m = kinds::of_line(head, 5);
-    let count = line::byte(head, 2);
-    match count {
-        b'0' => Operands::None,
-        b'1' => Operands::One(last),
-        b'2' => Operands::Two(k, last),
-        b'3' => Operands::Three(k, l, last),
-        b'4' => Operands::Four(k, l, m, last),
-        _ => Operands::More,
-    }
-}
-
-// The kind's digit, or - for a fault.
-fn given(head: &[u8], last: Kind) -> u8 {
-    match rule(operations::of_line(head), operands(head, last)) {
-        Ruled::Fault => b'-',
-        Ruled::Gives(k) => kinds::digit(k),
-    }
-}
-
-fn last_agrees(rt: &impl Print, name: &[u8], head: &[u8], last: Kind) -> bool {
-    let got = given(head, last);
-    if got == line::byte(head, 8 + number(last) as usize) {
+// What is given is the kind's digit, or - for a fault.
+fn last_agrees(case: &Case<'_, impl Print>, got: Option<Kind>, last: Kind) -> bool {
+    let got = got.map_or(b'-', |kind| kinds::digit(kind));
+    if got == line::byte(case.line, 8 + number(last) as usize) {
         return true;
     }
-    report::difference(rt, name, head);
-    report::text(rt, b"got ");
-    report::text(rt, &[got]);
-    report::text(rt, b" for a last operand of kind ");
-    report::text(rt, &[kinds::digit(last)]);
-    report::text(rt, b"\n");
+    case.difference();
+    report::text(case.rt, b"got ");
+    report::text(case.rt, &[got]);
+    report::text(case.rt, b" for a last operand of kind ");
+    report::text(case.rt, &[kinds::digit(last), b'\n']);
     false
 }
 
-// Without operands the first of the eight counts.
-pub(crate) fn agrees(rt: &impl Print, name: &[u8], head: &[u8]) -> bool {
-    if line::byte(head, 2) == b'0' {
-        return last_agrees(rt, name, head, Kind::Undefined);
+// All kinds of the last operand are compared, whatever comes of the first. Without operands the first
+// of the eight counts.
+pub(crate) fn agrees(case: &Case<'_, impl Print>) -> Option<bool> {
+    let line = case.line;
+    let operation = operations::of_line(line)?;
+    let kinds = [
+        kinds::of_line(line, 3)?,
+        kinds::of_line(line, 4)?,
+        kinds::of_line(line, 5)?,
+        kinds::of_line(line, 6)?,
+    ];
+    let count = line::number(line, 2, 3) as usize;
+    if MOST_OPERANDS < count {
+        return None;
     }
-    last_agrees(rt, name, head, Kind::Undefined)
-        & last_agrees(rt, name, head, Kind::Null)
-        & last_agrees(rt, name, head, Kind::Boolean)
-        & last_agrees(rt, name, head, Kind::Number)
-        & last_agrees(rt, name, head, Kind::String)
-        & last_agrees(rt, name, head, Kind::Vec2)
-        & last_agrees(rt, name, head, Kind::Vec3)
-        & last_agrees(rt, name, head, Kind::Vec4)
+    let lasts = if count == 0 { 1 } else { KINDS.len() };
+    let mut same = true;
+    for last in KINDS.into_iter().take(lasts) {
+        same = last_agrees(case, given(operation, count, &kinds, last), last) & same;
+    }
+    Some(same)
 }

@@ -1,42 +1,43 @@
 // Cases of a colour as it is shown: clamped, and its bytes.
 use crate::doubles;
 use cases::line;
-use colour::colour::{Colour, Rgba8};
-use reports::report;
+use colour::colour::Rgba8;
+use reports::case::Case;
 
-pub(crate) fn is_well_formed(head: &[u8]) -> bool {
-    line::fits(
-        head,
-        b"hhhhhhhhhhhhhhhh hhhhhhhhhhhhhhhh hhhhhhhhhhhhhhhh hhhhhhhhhhhhhhhh \
-          hhhhhhhhhhhhhhhh hhhhhhhhhhhhhhhh hhhhhhhhhhhhhhhh hhhhhhhhhhhhhhhh hhhhhhhh\n",
-    )
+pub(crate) const FORM: &[u8; 145] =
+    b"hhhhhhhhhhhhhhhh hhhhhhhhhhhhhhhh hhhhhhhhhhhhhhhh hhhhhhhhhhhhhhhh \
+      hhhhhhhhhhhhhhhh hhhhhhhhhhhhhhhh hhhhhhhhhhhhhhhh hhhhhhhhhhhhhhhh hhhhhhhh\n";
+
+fn wanted_bytes(line: &[u8]) -> [u64; 4] {
+    [
+        line::number(line, 136, 138),
+        line::number(line, 138, 140),
+        line::number(line, 140, 142),
+        line::number(line, 142, 144),
+    ]
 }
 
-fn bytes_agree(head: &[u8], b: Rgba8) -> bool {
-    (line::number(head, 136, 138) == b.red as u64)
-        & (line::number(head, 138, 140) == b.green as u64)
-        & (line::number(head, 140, 142) == b.blue as u64)
-        & (line::number(head, 142, 144) == b.alpha as u64)
-}
-
-fn print(rt: &impl Print, c: Colour, b: Rgba8) {
-    report::text(rt, b"got");
-    doubles::print(rt, c);
-    report::hex(rt, b" ", b.red as u64, 2);
-    report::hex(rt, b" ", b.green as u64, 2);
-    report::hex(rt, b" ", b.blue as u64, 2);
-    report::hex(rt, b" ", b.alpha as u64, 2);
-    report::text(rt, b"\n");
-}
-
-pub(crate) fn agrees(rt: &impl Print, name: &[u8], head: &[u8]) -> bool {
-    let c = doubles::colour(head, 0);
-    let clamped = c.clamped();
-    let bytes = c.bytes();
-    if doubles::agree(head, 68, clamped) & bytes_agree(head, bytes) {
+pub(crate) fn agrees(case: &Case<'_, impl Print>) -> bool {
+    let colour = doubles::colour(doubles::of_line(case.line, 0));
+    let clamped = doubles::of_colour(colour.clamped());
+    let Rgba8 {
+        red,
+        green,
+        blue,
+        alpha,
+    } = colour.bytes();
+    let bytes = [
+        u64::from(red),
+        u64::from(green),
+        u64::from(blue),
+        u64::from(alpha),
+    ];
+    if (doubles::of_line(case.line, 68) == clamped) & (wanted_bytes(case.line) == bytes) {
         return true;
     }
-    report::difference(rt, name, head);
-    print(rt, clamped, bytes);
+    case.difference();
+    let _ = print!(case.rt; "got");
+    doubles::print(case.rt, clamped);
+    let _ = println!(case.rt; " {red:02x} {green:02x} {blue:02x} {alpha:02x}");
     false
 }

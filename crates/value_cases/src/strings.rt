@@ -4,84 +4,50 @@ ghost use Rattle.std.specs.Prelude.{◌≤◌};
 
 use crate::{kinds, operations, values};
 use cases::line;
+use kind::kind::Kind;
+use reports::case::Case;
 use reports::{read, report};
 use std::io::Read;
-use value::apply::apply2;
+use value::apply::apply;
+use value::texts::Texts;
 use value::value::{Span, Value};
+
+pub(crate) const FORM: &[u8; 89] = b"hh hhh hhh h h hhhhhhhhhhhhhhhh hhhhhhhhhhhhhhhh \
+      h h hhhhhhhhhhhhhhhh hhhhhhhhhhhhhhhh h\n";
 
 // The number of the kind Boolean.
 const BOOLEAN: u64 = 2;
 
-pub(crate) fn is_well_formed(head: &[u8]) -> bool {
-    line::fits(
-        head,
-        b"hh hhh hhh h h hhhhhhhhhhhhhhhh hhhhhhhhhhhhhhhh \
-          h h hhhhhhhhhhhhhhhh hhhhhhhhhhhhhhhh h\n",
-    ) & operations::is_known(head)
-        & kinds::is_known(head, 11)
-        & kinds::is_known(head, 49)
-}
-
 // Another kind than String has its first double, or its truth, in place of the start.
-fn operand(head: &[u8], at: usize) -> Value
+fn operand(line: &[u8], at: usize) -> Option<Value>
     requires { at ≤ 49 }
 {
-    let kind = line::byte(head, at);
-    let start = line::number(head, at + 4, at + 20);
-    if kind != b'4' {
-        return values::of_patterns(kind, start, 0, 0, 0);
+    let start = line::number(line, at + 4, at + 20);
+    match kinds::of_line(line, at)? {
+        Kind::String => Some(Value::String(Span {
+            literal: line::byte(line, at + 2) == b'1',
+            start: start as usize,
+            end: line::number(line, at + 21, at + 37) as usize,
+        })),
+        kind => Some(values::of_patterns(kind, [start, 0, 0, 0])),
     }
-    Value::String(Span {
-        literal: line::byte(head, at + 2) == b'1',
-        start: start as usize,
-        end: line::number(head, at + 21, at + 37) as usize,
-    })
 }
 
-fn texts_agree(rt: &impl Print, name: &[u8], head: &[u8], style: &[u8], feature: &[u8]) -> bool {
-    let got = values::of_outcome(apply2(
-        style,
-        feature,
-        operations::of_line(head),
-        operand(head, 11),
-        operand(head, 49),
-    ));
-    let same = values::truth(got) == line::number(head, 87, 88);
-    if same & (values::kind_number(got) == BOOLEAN) {
-        return true;
+pub(crate) fn agrees(case: &Case<'_, impl Print>, file: &mut impl Read) -> Option<bool> {
+    let line = case.line;
+    let operation = operations::of_line(line)?;
+    let first = operand(line, 11)?;
+    let second = operand(line, 49)?;
+    let (mut style, mut feature) = ([0u8; read::MOST], [0u8; read::MOST]);
+    let style = read::text(file, &mut style, line::number(line, 3, 6) as usize)?;
+    let feature = read::text(file, &mut feature, line::number(line, 7, 10) as usize)?;
+    let got = values::columns(apply(Texts { style, feature }, operation, &[first, second]));
+    if got == [BOOLEAN, line::number(line, 87, 88), 0, 0, 0] {
+        return Some(true);
     }
-    report::text_difference(rt, name, head, style);
-    report::text(rt, feature);
-    report::text(rt, b"\n");
-    values::print(rt, got);
-    false
-}
-
-fn read_feature(
-    rt: &impl Print,
-    file: &mut impl Read,
-    name: &[u8],
-    head: &[u8],
-    style: &[u8],
-    feature: &mut [u8],
-) -> bool {
-    if read::text(file, feature) {
-        return texts_agree(rt, name, head, style, feature);
-    }
-    report::malformed(rt, name, head)
-}
-
-pub(crate) fn agrees(
-    rt: &impl Print,
-    file: &mut impl Read,
-    name: &[u8],
-    head: &[u8],
-    style: &[u8],
-) -> bool {
-    let length = line::number(head, 7, 10) as usize;
-    if length <= read::MOST {
-        let mut room = [0u8; read::MOST];
-        return read_feature(rt, file, name, head, style, &mut room[..length]);
-    }
-    report::malformed(rt, name, head)
+    case.text_difference(style);
+    report::text(case.rt, feature);
+    let _ = println!(case.rt; "");
+    values::print(case.rt, got);
+    Some(false)
 }

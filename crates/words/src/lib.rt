@@ -1,4 +1,4 @@
-// Tables of words, as function names and colour words: one text, in which each word is ended by a byte
+// Tables of words, as function names and the words of types: one text, in which each word is ended by a byte
 // that no word has. The number of a word is its place in the table.
 #![tactic(auto)]
 

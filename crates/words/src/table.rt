@@ -1,42 +1,35 @@
 // A word's place in a table.
-ghost use Rattle.std.specs.Prelude.{◌≡◌, map, drop};
-ghost use Rattle.lexer.specs.Bytes.{begins, place_in};
+ghost use Rattle.std.specs.Prelude.{◌≡◌, ◌==◌, map};
+ghost use Rattle.std.specs.List.{zip, list_all};
+ghost use Rattle.lexer.specs.Bytes.{same, place_in};
 ghost use Rattle.words.specs.Table.{folded, words_in};
 
-use lexer::bytes::{Class, has_byte, run_end};
+use lexer::bytes::{Class, run_end};
 
 // The byte, or its small letter if letter case is not to count.
 pub fn fold(folding: bool, b: u8) -> u8
     ensures { result ≡ folded folding b }
 {
-    if folding {
-        if b'A' <= b {
-            if b <= b'Z' {
-                return b + 32;
-            }
-        }
-    }
-    b
+    if folding { b.to_ascii_lowercase() } else { b }
 }
 
-// Whether a word stands at a place of a table, whatever follows it.
-fn stands(table: &[u8], at: usize, word: &[u8], folding: bool) -> bool
-    ensures { result ≡ begins (map (folded folding) word.now) (drop at table.now) }
+// Whether the bytes of a word of a table are those of a word, as far as both go.
+fn agree(part: &[u8], word: &[u8], folding: bool) -> bool
+    ensures { result ≡ list_all (λ p. p.0 == folded folding p.1) (zip part.now word.now) }
 {
-    let mut place = at;
-    let mut i = 0;
-    while i < word.len() {
-        if !has_byte(table, place, fold(folding, word[i])) {
-            return false;
-        }
-        place += 1;
-        i += 1;
-    }
-    true
+    part.iter().zip(word).all(|(a, b)| *a == fold(folding, *b))
 }
 
-// The number of a word in a table, or how many words the table has if it is none of them. The words
-// of a table are letters, digits and underscores.
+fn is_word(part: &[u8], word: &[u8], folding: bool) -> bool
+    ensures { result ≡ same part.now (map (folded folding) word.now) }
+{
+    part.len() == word.len() && agree(part, word, folding)
+}
+
+// The number of a word in a table, or how many words the table has if it is none of them: a function's number is
+// stored in a tree as it is, also where it names none, so that what is stored is one number and no option. The
+// words of a table are letters, digits and underscores. The loop goes from word to word: `split` would give one
+// word more, an empty one, for a table that ends in what parts its words.
 pub fn number_in(table: &[u8], word: &[u8], folding: bool) -> usize
     ensures { result ≡ place_in (words_in table.now) (map (folded folding) word.now) }
 {
@@ -44,10 +37,8 @@ pub fn number_in(table: &[u8], word: &[u8], folding: bool) -> usize
     let mut number = 0;
     while at < table.len() {
         let end = run_end(table, at, Class::Name);
-        if end - at == word.len() {
-            if stands(table, at, word, folding) {
-                return number;
-            }
+        if is_word(&table[at..end], word, folding) {
+            return number;
         }
         at = end + 1;
         number += 1;

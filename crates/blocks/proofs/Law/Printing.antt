@@ -1,5 +1,5 @@
 -- The lines of a block in turn: what is printed from a place on, and what the loop knows there.
-use mathlib.Core.Path.{◌≡◌, refl, sym, ◌∙◌, ap}
+use mathlib.Core.Path.{◌≡◌, refl, sym, ◌∙◌, ap, subst}
 use mathlib.Core.Bool.{Bool, true, false, cond, ◌&&◌, ◌||◌, not, false≢true}
 use mathlib.Core.List.{List, [], ◌∷◌, ◌++◌, append_assoc, append-nil}
 use Prim.Native.Nat.{ℕ, zero, suc, ◌+◌, ◌-◌, ◌≤◌, ◌<◌, min, max}
@@ -10,13 +10,16 @@ use lib.ListN.{length, get_or, take, drop, length-append, length-take, length-dr
 use lib.Seq.{take-nil, take_all, take_at, drop-drop, drop_at}
 use Rattle.lexer.specs.Bytes.{run}
 use Rattle.lexer.proofs.Law.Spelling.{slice_is}
+use Rattle.value.specs.declared.value.Value.{Value}
 use Rattle.text.specs.Parts.{lines, bytes_of, end_from}
 use Rattle.text.proofs.Law.Parts.{lines_from, end-from, end-within}
 use Rattle.feature.specs.Feature.{feature_size}
+use Rattle.style.specs.Answer.{Answer}
 use Rattle.output.specs.Line.{longest_line, front}
+use Rattle.painter.specs.declared.answer.Given.{Given}
 use Rattle.painter.specs.Paint.{feature_line}
 use Rattle.painter.proofs.Printed.{line-fits, printed-whole}
-use Rattle.painter.specs.Applied.{Arrays, source, given_under, arrays_after}
+use Rattle.painter.specs.Applied.{source, given_under, given_values}
 use Rattle.blocks.proofs.Law.Left.{left-whole, left-some, left-none}
 use Rattle.blocks.specs.Ledger.{last_number}
 use Rattle.blocks.specs.Block.{whole_lines, texts_by, fitting, no_values, printed_of, joined, on_page, surplus, used_by, progress_of, is_whole, is_next, left_from, Advances}
@@ -89,29 +92,29 @@ page-more out₀ ts t out e n size =
 -- ---- what is printed from a place on
 
 module _ (head plan room block : List ℕ) (ends : Bool) where
-  abbrev say : ℕ → List ℕ → Arrays → List ℕ
+  abbrev say : ℕ → List ℕ → List Value → List ℕ
   say n l a = feature_line n (given_under (source head l room plan) n a)
 
-  abbrev after : ℕ → List ℕ → Arrays → Arrays
-  after n l a = arrays_after (source head l room plan) n a
+  abbrev after : ℕ → List ℕ → List Value → List Value
+  after n l a = given_values (source head l room plan) n a
 
-  abbrev from_lines : ℕ → ℕ → Arrays → List (List ℕ) → List (List ℕ)
+  abbrev from_lines : ℕ → ℕ → List Value → List (List ℕ) → List (List ℕ)
   from_lines n size a ls = fitting size (texts_by say after n a (take (suc last_number - n) ls))
 
-  unfoldable pub rest : ℕ → ℕ → ℕ → Arrays → List (List ℕ)
+  unfoldable pub rest : ℕ → ℕ → ℕ → List Value → List (List ℕ)
   rest at n size a = from_lines n size a (whole_lines ends (length block - at) (lines (drop at block)))
 
-  nothing : (n size : ℕ) (a : Arrays) → from_lines n size a [] ≡ []
+  nothing : (n size : ℕ) (a : List Value) → from_lines n size a [] ≡ []
   nothing n size a = ap (λ (ls : List (List ℕ)). fitting size (texts_by say after n a ls)) (take-nil (suc last_number - n))
 
   -- a line is printed first
-  first-line : (n size : ℕ) (a : Arrays) (l : List ℕ) (ls : List (List ℕ)) → n ≤ last_number → longest_line ≤ size →
+  first-line : (n size : ℕ) (a : List Value) (l : List ℕ) (ls : List (List ℕ)) → n ≤ last_number → longest_line ≤ size →
       from_lines n size a (l ∷ ls) ≡ say n l a ∷ from_lines (suc n) (size - length (say n l a)) (after n l a) ls
   first-line n size a l ls h k =
       let m : suc last_number - n ≡ suc (suc last_number - suc n) = omega arith in
       ap (λ (i : ℕ). fitting size (texts_by say after n a (take i (l ∷ ls)))) m ∙ rw (le-leb longest_line size k)
 
-  no_line : (n size : ℕ) (a : Arrays) (l : List ℕ) (ls : List (List ℕ)) → (leb n last_number && leb longest_line size) ≡ false → from_lines n size a (l ∷ ls) ≡ []
+  no_line : (n size : ℕ) (a : List Value) (l : List ℕ) (ls : List (List ℕ)) → (leb n last_number && leb longest_line size) ≡ false → from_lines n size a (l ∷ ls) ≡ []
   no_line n size a l ls h = by_number (leb n last_number) refl
     where
       by_number : (t : Bool) → leb n last_number ≡ t → from_lines n size a (l ∷ ls) ≡ []
@@ -123,7 +126,7 @@ module _ (head plan room block : List ℕ) (ends : Bool) where
           let k : leb longest_line size ≡ false = ap (λ (t : Bool). t && leb longest_line size) (sym e) ∙ h in
           ap (λ (i : ℕ). fitting size (texts_by say after n a (take i (l ∷ ls)))) m ∙ rw k
 
-  module _ (at end n size : ℕ) (a : Arrays) (ends_at : end ≡ end_from 10 block at) where
+  module _ (at end n size : ℕ) (a : List Value) (ends_at : end ≡ end_from 10 block at) where
     abbrev line : List ℕ
     line = take (end - at) (drop at block)
 
@@ -185,7 +188,7 @@ module _ (head plan room block : List ℕ) (ends : Bool) where
   -- ---- the loop
 
   -- what is known behind some lines: they are what is printed of the block, up to what the rest gives
-  pub record Sofar (first : ℕ) (out₀ out : List ℕ) (a : Arrays) (at end number printed : ℕ) : Type 0 where
+  pub record Sofar (first : ℕ) (out₀ out : List ℕ) (a : List Value) (at end number printed : ℕ) : Type 0 where
     pub done : List (List ℕ)
     pub all : printed_of head plan room block first ends (length out₀) ≡ done ++ rest at number (length out₀ - printed) a
     pub counted : number ≡ first + length done
@@ -198,9 +201,14 @@ module _ (head plan room block : List ℕ) (ends : Bool) where
     pub ended : end ≡ end_from 10 block at
     pub near : at ≤ length block + 1
 
-  pub at_first : (first : ℕ) (out : List ℕ) (end : ℕ) → end ≡ end_from 10 block 0 → Sofar first out out no_values 0 end first 0
+  -- an end that is known to be the line's
+  pub at-end : (first : ℕ) (out₀ out : List ℕ) (a : List Value) (at number printed : ℕ) → Sofar first out₀ out a at (end_from 10 block at) number printed →
+      (end : ℕ) → end ≡ end_from 10 block at → Sofar first out₀ out a at end number printed
+  at-end first out₀ out a at number printed s end e = subst (λ (n : ℕ). Sofar first out₀ out a at n number printed) (sym e) s
+
+  pub at_first : (first : ℕ) (out : List ℕ) → Sofar first out out no_values 0 (end_from 10 block 0) first 0
   unfolding printed_of rest on_page
-  at_first first out end e =
+  at_first first out =
       let whole : length block ≡ length block - 0 = omega arith in
       let wide : length out ≡ length out - 0 = omega arith in
       record {
@@ -213,11 +221,11 @@ module _ (head plan room block : List ℕ) (ends : Bool) where
         most = omega arith;
         used = refl;
         left = refl;
-        ended = e;
+        ended = refl;
         near = omega arith;
       }
 
-  module _ (first : ℕ) (out₀ out : List ℕ) (a : Arrays) (at end number printed : ℕ) (s : Sofar first out₀ out a at end number printed) where
+  module _ (first : ℕ) (out₀ out : List ℕ) (a : List Value) (at end number printed : ℕ) (s : Sofar first out₀ out a at end number printed) where
     pub same_size : length out ≡ length out₀
     unfolding on_page
     same_size = ap length s.wrote ∙ length-append (joined s.done) _ ∙ omega (arith, length-drop (length (joined s.done)) out₀, s.bytes, s.fits)
@@ -244,14 +252,13 @@ module _ (head plan room block : List ℕ) (ends : Bool) where
       end-inside = line-end at end number 0 a s.ended known.0
 
       -- the text that is printed, as it comes back with the part of the page behind the others
-      module _ (part : List ℕ) (bytes : ℕ) (a' : Arrays) (end' : ℕ)
-          (is : (part, bytes) ≡ front (take (length out - printed) (drop printed out)) text) (arrays : a' ≡ after number (line at end number 0 a s.ended) a)
-          (next : end' ≡ end_from 10 block (end + 1)) where
+      module _ (answer : Answer Given) (told : answer ≡ given_under (source head (line at end number 0 a s.ended) room plan) number a) (part : List ℕ) (bytes : ℕ) (a' : List Value)
+          (is : (part, bytes) ≡ front (take (length out - printed) (drop printed out)) (feature_line number answer)) (kept : a' ≡ after number (line at end number 0 a s.ended) a) where
         wide : longest_line ≤ length (take (length out - printed) (drop printed out))
         wide = omega (arith, known.3, length-take (length out - printed) (drop printed out), length-drop printed out)
 
         whole : ◌≡◌ {A = List ℕ × ℕ} (part, bytes) (text ++ drop (length text) (take (length out - printed) (drop printed out)), length text)
-        whole = is ∙ printed-whole number (given_under (source head (line at end number 0 a s.ended) room plan) number a) _ wide
+        whole = is ∙ ap (λ (x : Answer Given). front (take (length out - printed) (drop printed out)) (feature_line number x)) told ∙ printed-whole number (given_under (source head (line at end number 0 a s.ended) room plan) number a) _ wide
 
         pub bytes-are : bytes ≡ length text
         bytes-are = ap (λ (p : List ℕ × ℕ). p.1) whole
@@ -259,7 +266,7 @@ module _ (head plan room block : List ℕ) (ends : Bool) where
         pub short : printed + bytes ≤ length out
         short = omega (arith, bytes-are, line-fits number (given_under (source head (line at end number 0 a s.ended) room plan) number a), known.3)
 
-        pub on-next : Sofar first out₀ (take printed out ++ (part ++ drop (length out - printed) (drop printed out))) a' (end + 1) end' (number + 1) (printed + bytes)
+        pub on-next : Sofar first out₀ (take printed out ++ (part ++ drop (length out - printed) (drop printed out))) a' (end + 1) (end_from 10 block (end + 1)) (number + 1) (printed + bytes)
         on-next =
             let l = line at end number 0 a s.ended in
             let count : length (s.done ++ text ∷ []) ≡ suc (length s.done) = length-append s.done (text ∷ []) ∙ omega arith in
@@ -273,7 +280,7 @@ module _ (head plan room block : List ℕ) (ends : Bool) where
               all =
                   s.all
                   ∙ ap (λ (m : ℕ). s.done ++ rest at number m a) room
-                  ∙ ap (λ (x : List (List ℕ)). s.done ++ x) (turned ∙ (λ i. text ∷ rest (end + 1) (number + 1) (less i) (sym arrays i)))
+                  ∙ ap (λ (x : List (List ℕ)). s.done ++ x) (turned ∙ (λ i. text ∷ rest (end + 1) (number + 1) (less i) (sym kept i)))
                   ∙ sym (append_assoc s.done (text ∷ []) (rest (end + 1) (number + 1) (length out₀ - (printed + bytes)) a'));
               counted = omega (arith, s.counted, count);
               wrote = ap (λ (p : List ℕ). take printed out ++ (p ++ drop (length out - printed) (drop printed out))) (ap (λ (p : List ℕ × ℕ). p.0) whole) ∙ page-more out₀ s.done text out s.wrote printed s.bytes;
@@ -282,7 +289,7 @@ module _ (head plan room block : List ℕ) (ends : Bool) where
               most = omega (arith, known.2);
               used = ap (λ (k : ℕ). bytes_of (take k (lines block))) count ∙ step.0 ∙ omega (arith, s.used, line-length at end number 0 a s.ended known.0, end-behind);
               left = sym (ap (λ (k : ℕ). drop k (lines block)) count ∙ step.1);
-              ended = next;
+              ended = refl;
               near = omega (arith, end-inside);
             }
 

@@ -1,4 +1,5 @@
 -- The search of a window: what it says of the head, whatever bytes come behind the window.
+use Rattle.std.specs.Prelude.{Result, Ok, Err}
 use mathlib.Core.Path.{◌≡◌, refl, sym, ◌∙◌, ap, subst}
 use mathlib.Core.Bool.{Bool, true, false, cond, false≢true}
 use mathlib.Core.List.{List, [], ◌∷◌, ◌++◌, append_assoc, append-nil}
@@ -13,7 +14,6 @@ use Rattle.text.specs.Parts.{lines}
 use Rattle.text.specs.Head.{is_feature, before_features, head_end}
 use Rattle.blocks.specs.Opening.{search_in, search_of}
 use Rattle.blocks.specs.Run.{Opened}
-use Rattle.blocks.specs.declared.opening.Searched.{Searched}
 use Rattle.blocks.proofs.Law.Lines.{split}
 
 -- by the first line
@@ -89,8 +89,9 @@ module _ (t l : List ℕ) (ls : List (List ℕ)) (e : lines t ≡ l ∷ ls) (end
 
 -- ---- what a search says
 
-abbrev Says : ℕ → List ℕ → Searched → Type 0
-Says at t r = (k : ℕ) × (r.at ≡ at + k) × Known t r.found k
+abbrev Says : ℕ → List ℕ → Result ℕ ℕ → Type 0
+Says at t (Ok p) = (k : ℕ) × (p ≡ at + k) × Known t true k
+Says at t (Err p) = (k : ℕ) × (p ≡ at + k) × Known t false k
 
 search-says : (ls : List (List ℕ)) (at : ℕ) (t : List ℕ) → lines t ≡ ls → Says at t (search_in at (length t) ls)
 search-says [] at t e = (0, omega arith, start t)
@@ -99,25 +100,30 @@ search-says (l ∷ ls) at t e =
     let ended = ltb-true (length l) (length t) q in
     by-test (Says at t) (is_feature l) (λ f. (0, omega arith, at-feature t l ls e ended f)) (λ f.
     let p = search-says ls (at + suc (length l)) (drop (suc (length l)) t) (behind-lines t l ls e ended) in
-    further (behind-line t l ls e ended f) (rw (length-drop (suc (length l)) t) at p)))
+    further (behind-line t l ls e ended f) _ (rw (length-drop (suc (length l)) t) at p)))
     (λ q. (0, omega arith, start t))
   where
-    further : Known t false (suc (length l)) → {r : Searched} → Says (at + suc (length l)) (drop (suc (length l)) t) r → Says at t r
-    further o {r} p = (suc (length l) + p.0, omega (arith, p.1), onward t (suc (length l)) p.0 r.found o p.2)
+    further : Known t false (suc (length l)) → (r : Result ℕ ℕ) → Says (at + suc (length l)) (drop (suc (length l)) t) r → Says at t r
+    further o (Ok r) p = (suc (length l) + p.0, omega (arith, p.1), onward t (suc (length l)) p.0 true o p.2)
+    further o (Err r) p = (suc (length l) + p.0, omega (arith, p.1), onward t (suc (length l)) p.0 false o p.2)
+
+-- of a text from its first byte on
+abbrev pub Told : List ℕ → Result ℕ ℕ → Type 0
+Told t (Ok k) = Known t true k
+Told t (Err k) = Known t false k
 
 module _ (w : List ℕ) (from : ℕ) (new : List ℕ) where
-  searched : Known w false from → Known (w ++ new) (search_of (w ++ new) from).found (search_of (w ++ new) from).at
-  unfolding search_of
-  searched o =
-      let p = rw (length-drop from (w ++ new)) at (search-says (lines (drop from (w ++ new))) from (drop from (w ++ new)) refl) in
-      subst (Known (w ++ new) (search_of (w ++ new) from).found) (sym p.1)
-      (onward (w ++ new) from p.0 (search_of (w ++ new) from).found (wider w new from o) p.2)
+  told : Known w false from → (r : Result ℕ ℕ) → Says from (drop from (w ++ new)) r → Told (w ++ new) r
+  told o (Ok k) p = subst (Known (w ++ new) true) (sym p.1) (onward (w ++ new) from p.0 true (wider w new from o) p.2)
+  told o (Err k) p = subst (Known (w ++ new) false) (sym p.1) (onward (w ++ new) from p.0 false (wider w new from o) p.2)
 
-  pub searched-as : (found : Bool) → (search_of (w ++ new) from).found ≡ found → Known w false from →
-      Known (w ++ new) found (search_of (w ++ new) from).at
-  searched-as found e o = subst (λ (b : Bool). Known (w ++ new) b (search_of (w ++ new) from).at) e (searched o)
+  pub searched-as : (r : Result ℕ ℕ) → search_of (w ++ new) from ≡ r → Known w false from → Told (w ++ new) r
+  unfolding search_of
+  searched-as r e o =
+      let p = rw (length-drop from (w ++ new)) at (search-says (lines (drop from (w ++ new))) from (drop from (w ++ new)) refl) in
+      subst (Told (w ++ new)) e (told o _ p)
 
 -- the lines before the place from which a window is searched are of the head
 pub opened : {w : List ℕ} {from : ℕ} → Opened w from → Known w false from
 opened Opened.nothing = start []
-opened (Opened.more {w} {from} o new e) = searched-as w from new false e (opened o)
+opened (Opened.more {w} {from} {at} o new e) = searched-as w from new (Err at) e (opened o)

@@ -1,4 +1,5 @@
 -- The lines of a window in turn, while a head is looked for.
+use Rattle.std.specs.Prelude.{Ok, Err}
 use mathlib.Core.Path.{◌≡◌, refl, sym, ◌∙◌}
 use mathlib.Core.Bool.{Bool, true, false, cond}
 use mathlib.Core.List.{List, ◌∷◌}
@@ -14,28 +15,24 @@ use Rattle.text.proofs.Law.Parts.{lines_from, end-from, end-within}
 use Rattle.blocks.specs.Opening.{search_in, search_of}
 
 -- what the search gives from here on is what it gives, and the line here ends there
-pub record On (window : List ℕ) (from at end : ℕ) : Type 0 where
-  pub same : search_of window from ≡ search_of window at
-  pub ended : end ≡ end_from 10 window at
-
-module _ (window : List ℕ) (from at end : ℕ) (o : On window from at end) where
+module _ (window : List ℕ) (from at end : ℕ) (same : search_of window from ≡ search_of window at) (ended : end ≡ end_from 10 window at) where
   abbrev line : List ℕ
   line = take (end - at) (drop at window)
 
   module _ (inside : at < length window) where
     here : lines (drop at window) ≡ line ∷ lines (drop (end + 1) window)
-    here = rw (← slice_is at end window, o.ended) (lines_from window at inside)
+    here = rw (← slice_is at end window, ended) (lines_from window at inside)
 
     line-length : length line ≡ end - at
     line-length =
-        omega (arith, length-take (end - at) (drop at window), length-drop at window, o.ended, end-within 10 window at (omega (arith, inside)))
+        omega (arith, length-take (end - at) (drop at window), length-drop at window, ended, end-within 10 window at (omega (arith, inside)))
 
   -- no LF ends the line here
-  pub not_found : length window ≤ end → record { at = at; found = false } ≡ search_of window from
+  pub not_found : length window ≤ end → Err at ≡ search_of window from
   unfolding search_of
-  not_found h = by (ltb at (length window)) refl ∙ sym o.same
+  not_found h = by (ltb at (length window)) refl ∙ sym same
     where
-      by : (t : Bool) → ltb at (length window) ≡ t → record { at = at; found = false } ≡ search_in at (length window - at) (lines (drop at window))
+      by : (t : Bool) → ltb at (length window) ≡ t → Err at ≡ search_in at (length window - at) (lines (drop at window))
       by true q =
           let inside = ltb-true at (length window) q in
           let long : length window - at ≤ length line = omega (arith, line-length inside, h) in
@@ -44,9 +41,9 @@ module _ (window : List ℕ) (from at end : ℕ) (o : On window from at end) whe
 
   module _ (h : end < length window) where
     pub order : at ≤ end
-    order = rw o.ended (end-from 10 window at)
+    order = rw ended (end-from 10 window at)
 
-    found_here : search_of window at ≡ cond (is_feature line) (record { at = at; found = true }) (search_of window (end + 1))
+    found_here : search_of window at ≡ cond (is_feature line) (Ok at) (search_of window (end + 1))
     unfolding search_of
     found_here =
         let inside : at < length window = omega (arith, h, order) in
@@ -56,8 +53,8 @@ module _ (window : List ℕ) (from at end : ℕ) (o : On window from at end) whe
         let left : length window - at - suc (length line) ≡ length window - (end + 1) = omega (arith, size, order, h) in
         rw (here inside, lt-ltb (length line) (length window - at) short, next, left)
 
-    pub found_it : (t : Bool) → t ≡ is_feature line → t ≡ true → record { at = at; found = true } ≡ search_of window from
-    found_it t e q = sym (o.same ∙ found_here ∙ rw (← e, q))
+    pub found_it : (t : Bool) → t ≡ is_feature line → t ≡ true → Ok at ≡ search_of window from
+    found_it t e q = sym (same ∙ found_here ∙ rw (← e, q))
 
-    pub on-next : (t : Bool) → t ≡ is_feature line → t ≡ false → (end' : ℕ) → end' ≡ end_from 10 window (end + 1) → On window from (end + 1) end'
-    on-next t e q end' n = record { same = o.same ∙ found_here ∙ rw (← e, q); ended = n }
+    pub on-next : (t : Bool) → t ≡ is_feature line → t ≡ false → search_of window from ≡ search_of window (end + 1)
+    on-next t e q = same ∙ found_here ∙ rw (← e, q)

@@ -1,4 +1,5 @@
 -- A window that is read as far as it has to be: its head is the input's, or both are too long.
+use Rattle.std.specs.Prelude.{Ok}
 use mathlib.Core.Path.{◌≡◌, refl, sym, ◌∙◌, ap}
 use mathlib.Core.Bool.{Bool, true, false}
 use mathlib.Core.List.{List, [], ◌∷◌, ◌++◌, append-nil}
@@ -13,7 +14,6 @@ use Rattle.text.specs.Parts.{lines, end_from}
 use Rattle.text.specs.Head.{is_feature, before_features, head_end}
 use Rattle.text.proofs.Law.Parts.{lines_from, end-within}
 use Rattle.style.specs.Head.{head_size}
-use Rattle.blocks.specs.Opening.{search_of}
 use Rattle.blocks.specs.Run.{Whole}
 use Rattle.blocks.proofs.Law.Lines.{no_lines}
 use Rattle.blocks.proofs.Law.Long.{Unended, unended-line}
@@ -108,7 +108,6 @@ agrees (l ∷ ls) t limit future = go (agrees ls (drop (suc (length l)) t) (limi
 -- ---- a window that is read as far as it has to be
 
 pub whole-agrees : {w rest : List ℕ} → Whole w rest → Agree head_size w rest
-whole-agrees (Whole.found {w} {from} o new rest e) =
-    inl (settled (w ++ new) (search_of (w ++ new) from).at (searched-as w from new true e (opened o)) rest)
+whole-agrees (Whole.found {w} {from} {at} o new rest e) = inl (settled (w ++ new) at (searched-as w from new (Ok at) e (opened o)) rest)
 whole-agrees (Whole.ended w) = inl (alone w)
 whole-agrees (Whole.full w rest h) = agrees (lines w) w head_size rest refl h

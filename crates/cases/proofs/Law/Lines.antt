@@ -1,8 +1,8 @@
 -- Digits, and forms and numbers of a line by the byte at a place.
-use Rattle.std.proofs.Common.{◌≡◌, ℕ, suc, ◌+◌, ◌-◌, ◌%◌, ◌^◌, ◌<◌, ◌≤◌, true, false, ◌&&◌, ◌||◌, eqb, ltb, List, [], ◌∷◌, length, get_or, take, drop, sym, refl, ap, ◌∙◌, add-one, arith, drop_of_length-le, length-take, drop-cons, get_or-take, eq-eqb, ne_eqb, le-leb}
+use Rattle.std.proofs.Common.{◌≡◌, ℕ, suc, ◌+◌, ◌-◌, ◌%◌, ◌^◌, ◌<◌, ◌≤◌, false, ◌&&◌, List, [], ◌∷◌, length, get_or, drop, sym, refl, ap, add-one, arith, drop_of_length-le, drop-cons, le-leb}
 use mathlib.Core.Bool.{and-false}
 use borrow.Author.Tests.{lt-leb}
-use lib.Seq.{slice}
+use Rattle.std.specs.List.{zip, list_all}
 use Rattle.cases.specs.Line.{digit_of, fits_byte, fits_form, with_digit, with_digits}
 
 -- ---- digits, by the bounds that a byte is between
@@ -25,31 +25,17 @@ module _ (b : ℕ) where
 
 -- ---- forms
 
-module _ (b form : ℕ) where
-  pub fits-digit : form ≡ 104 → ltb (digit_of b) 16 ≡ fits_byte b form
-  fits-digit e = rw (eq-eqb form 104 e)
-
-  pub fits-other : (form ≡ 104 → ⊥) → eqb form 63 || eqb form b ≡ fits_byte b form
-  fits-other e = rw (ne_eqb form 104 e)
+pub fits_along : (line form : List ℕ) → length line ≡ length form → list_all (λ p. fits_byte p.0 p.1) (zip line form) ≡ fits_form line form
+fits_along [] [] h = refl
+fits_along [] (f ∷ fs) h = absurd (omega arith)
+fits_along (b ∷ bs) [] h = absurd (omega arith)
+fits_along (b ∷ bs) (f ∷ fs) h = ap (λ t. fits_byte b f && t) (fits_along bs fs (omega arith))
 
 pub other_length : (line form : List ℕ) → (length line ≡ length form → ⊥) → false ≡ fits_form line form
 other_length [] [] h = absurd (h refl)
 other_length [] (f ∷ fs) h = refl
 other_length (b ∷ bs) [] h = refl
 other_length (b ∷ bs) (f ∷ fs) h = rw (sym (other_length bs fs (λ e. h (ap suc e)))) (sym (and-false (fits_byte b f)))
-
-module _ (line form : List ℕ) (at : ℕ) (same : length line ≡ length form) where
-  fits-step : at < length line → fits_form (drop at line) (drop at form) ≡ fits_byte (get_or line at 0) (get_or form at 0) && fits_form (drop (suc at) line) (drop (suc at) form)
-  fits-step h = rw (drop-cons line at 0 h, drop-cons form at 0 (omega arith))
-
-  pub fits_more : at < length line → fits_byte (get_or line at 0) (get_or form at 0) ≡ true → fits_form (drop (at + 1) line) (drop (at + 1) form) ≡ fits_form (drop at line) (drop at form)
-  fits_more h e = sym (fits-step h ∙ rw (e, add-one at))
-
-  pub fits-stop : at < length line → fits_byte (get_or line at 0) (get_or form at 0) ≡ false → false ≡ fits_form (drop at line) (drop at form)
-  fits-stop h e = sym (fits-step h ∙ rw e)
-
-  pub fits-end : length line ≤ at → true ≡ fits_form (drop at line) (drop at form)
-  fits-end h = rw (drop_of_length-le line h, drop_of_length-le form {i = at} (omega arith))
 
 -- ---- numbers
 
@@ -59,20 +45,12 @@ unfolding with_digits
 same_bits m n [] e = e
 same_bits m n (b ∷ bs) e = same_bits (with_digit m b) (with_digit n b) bs (omega arith)
 
-module _ (line : List ℕ) (at to value : ℕ) where
-  pub number_more : at < length line → at < to → with_digits (with_digit value (get_or line at 0) % 2 ^ 64) (slice (at + 1) to line) % 2 ^ 64 ≡ with_digits value (slice at to line) % 2 ^ 64
+module _ (bs : List ℕ) (i value : ℕ) where
+  pub number_more : i < length bs → with_digits (with_digit value (get_or bs i 0) % 2 ^ 64) (drop (i + 1) bs) % 2 ^ 64 ≡ with_digits value (drop i bs) % 2 ^ 64
   unfolding with_digits
-  number_more h k =
-      let inside : at < length (take to line) = rw (length-take to line) (omega arith) in
-      rw (add-one at, drop-cons (take to line) at 0 inside, get_or-take to line at 0 k) (same_bits _ _ (slice (suc at) to line) (omega arith))
+  number_more h = rw (add-one i, drop-cons bs i 0 h) (same_bits _ _ (drop (suc i) bs) (omega arith))
 
   -- nothing is left of the digits
-  number-end : value < 2 ^ 64 → length (take to line) ≤ at → value ≡ with_digits value (slice at to line) % 2 ^ 64
+  pub number_past : value < 2 ^ 64 → length bs ≤ i → value ≡ with_digits value (drop i bs) % 2 ^ 64
   unfolding with_digits
-  number-end small h = rw (drop_of_length-le (take to line) {i = at} h) (omega arith)
-
-  pub number-stop : value < 2 ^ 64 → to ≤ at → value ≡ with_digits value (slice at to line) % 2 ^ 64
-  number-stop small h = number-end small (rw (length-take to line) (omega arith))
-
-  pub number_past : value < 2 ^ 64 → length line ≤ at → value ≡ with_digits value (slice at to line) % 2 ^ 64
-  number_past small h = number-end small (rw (length-take to line) (omega arith))
+  number_past small h = rw (drop_of_length-le bs {i = i} h) (omega arith)

@@ -1,11 +1,13 @@
 -- Names: rows that are looked through, and the numbers that tokens get.
 use mathlib.Core.Path.{◌≡◌, refl, sym, ◌∙◌, ap, subst}
-use mathlib.Core.Bool.{Bool, true, false, false≢true, and-eq-true_iff}
+use Rattle.std.specs.Prelude.{Option, Some, None}
+use Rattle.std.specs.Option.{unwrap_or}
+use mathlib.Core.Bool.{Bool, true, false, cond, and-eq-true_iff}
 use mathlib.Core.List.{List, [], ◌∷◌}
 use Prim.Native.Nat.{ℕ, zero, suc, ◌+◌, ◌-◌, ◌<◌, ◌≤◌}
 use native.Mathlib.Omega.{arith}
 use borrow.Author.Tests.{lt-ltb, le-ltb, leb-true}
-use lib.Dec.{leb}
+use lib.Dec.{leb, ltb}
 use lib.Ieee.Bits.{is_true}
 use lib.ListN.{length, take, drop, length-append}
 use lib.Seq.{slice, take_all, length-slice}
@@ -22,9 +24,8 @@ use Rattle.lexer.proofs.Law.Spelling.{slice_is}
 use Rattle.lexer.proofs.Munch.{munch}
 use Rattle.tree.specs.Slots.{put, variable_tag}
 use Rattle.checker.specs.Name.{first_row, property_row, row_in, numbered, onward, resolved_from, resolved_slots}
-use Rattle.checker.specs.Inner.{is_variable, Stands}
-use Rattle.checker.specs.declared.name.Scope.{Scope}
-use Rattle.checker.specs.declared.name.Scope.TheVariants.{Define, Style}
+use Rattle.checker.specs.Inner.{row_below, Stands}
+use Rattle.checker.specs.declared.name.Scope.TheVariants.{Style}
 
 -- a name is all of itself, from its start to its end
 pub whole-name : (r : Bool) (name other : List ℕ) → r ≡ same (slice 0 (length name) name) other → r ≡ same name other
@@ -46,8 +47,8 @@ module _ (p : ℕ → Bool) where
 
   -- the same for the rows up to another, as the loop meets them
   module _ (row to : ℕ) where
-    pub row-found : row < to → p row ≡ true → row ≡ first_row p (to - row) row
-    row-found h e = found_first (to - row) row (omega arith) e
+    pub row-found : row < to → p row ≡ true → Some row ≡ row_below to (first_row p (to - row) row)
+    row-found h e = rw (← found_first (to - row) row (omega arith) e, lt-ltb row to h)
 
     pub row-passed : row < to → p row ≡ false → first_row p (to - (row + 1)) (row + 1) ≡ first_row p (to - row) row
     row-passed h e =
@@ -55,75 +56,56 @@ module _ (p : ℕ → Bool) where
         let left : suc (to - (row + 1)) ≡ to - row = omega arith in
         ap (first_row p (to - (row + 1))) next ∙ passed (to - (row + 1)) row e ∙ ap (λ n. first_row p n row) left
 
-    pub row-behind : row ≤ to → to ≤ row → to ≡ first_row p (to - row) row
+    pub row-behind : row ≡ to → None ≡ row_below to (first_row p (to - row) row)
     unfolding first_row
-    row-behind h k =
+    row-behind e =
         let none : to - row ≡ 0 = omega arith in
-        let there : to ≡ row = omega arith in
-        there ∙ ap (λ n. first_row p n row) (sym none)
+        rw (none, le-ltb row to (omega arith))
 
+-- a row below another, or what stands for none
+below-or : (i to d : ℕ) → unwrap_or (row_below to i) d ≡ cond (ltb i to) i d
+below-or i to d = go (ltb i to)
+  where
+    go : (b : Bool) → unwrap_or (cond b (Some i) None) d ≡ cond b i d
+    go true = refl
+    go false = refl
+
+module _ (p : ℕ → Bool) (r : Option ℕ) where
   -- the first row of the properties, or the number of an undeclared name
-  module _ (i : ℕ) (e : i ≡ first_row p (32 - 0) 0) where
-    pub property-found : i < 32 → i ≡ property_row p
-    unfolding property_row
-    property-found h = rw (← e, lt-ltb i 32 h)
-
-    pub property-missed : 32 ≤ i → 48 ≡ property_row p
-    unfolding property_row
-    property-missed h = rw (← e, le-ltb i 32 h)
+  pub property-or : r ≡ row_below 32 (first_row p (32 - 0) 0) → unwrap_or r 48 ≡ property_row p
+  unfolding property_row
+  property-or e = ap (λ r. unwrap_or r 48) e ∙ below-or (first_row p 32 0) 32 48
 
   -- a define hides a property of its name
-  module _ (i : ℕ) (e : i ≡ first_row p (48 - 32) 32) where
-    pub define-found : i < 48 → i ≡ row_in Style p
-    unfolding row_in
-    define-found h = rw (← e, lt-ltb i 48 h)
-
-    pub define-missed : 48 ≤ i → (j : ℕ) → j ≡ property_row p → j ≡ row_in Style p
-    unfolding row_in
-    define-missed h j k = rw (← e, le-ltb i 48 h) k
-
-  -- either scope
-  module _ (scope : Scope) (i : ℕ) where
-    pub in-define : scope ≡ Define → i ≡ property_row p → i ≡ row_in scope p
-    unfolding row_in
-    in-define e h = h ∙ ap (λ s. row_in s p) (sym e)
-
-    pub in-style : scope ≡ Style → i ≡ row_in Style p → i ≡ row_in scope p
-    in-style e h = h ∙ ap (λ s. row_in s p) (sym e)
+  pub define-or : r ≡ row_below 48 (first_row p (48 - 32) 32) → unwrap_or r (property_row p) ≡ row_in Style p
+  unfolding row_in
+  define-or e = ap (λ r. unwrap_or r (property_row p)) e ∙ below-or (first_row p 16 32) 48 (property_row p)
 
 -- ---- tokens
 
 -- a variable has a byte at least between `${` and `}`
-long-variable : {s : List ℕ} {t : Token} → Spells s t → is_variable t ≡ true → 3 < length s
-long-variable (spelling.number d h) e = absurd (false≢true e)
-long-variable (spelling.string q bs h a) e = absurd (false≢true e)
+long-variable : {s : List ℕ} {t : Token} → Spells s t → t ≡ Variable → 3 < length s
+long-variable (spelling.number d h) e = absurd (cc)
+long-variable (spelling.string q bs h a) e = absurd (cc)
 long-variable (spelling.variable bs a h) e =
     let some = leb-true 1 (length bs) ((and-eq-true_iff (leb 1 (length bs)) (leb (length bs) 64)).0 (is_true (is_name_length (length bs)) h)).0 in
     omega (arith, length-append bs (125 ∷ []))
-long-variable (spelling.word b bs h a) e = absurd (false≢true e)
-long-variable (spelling.punctuator m) e = absurd (false≢true e)
+long-variable (spelling.word b bs h a) e = absurd (cc)
+long-variable (spelling.punctuator m) e = absurd (cc)
 
--- by the test whether a token is a variable
-variable-is : (t : Token) → is_variable t ≡ true → t ≡ Variable
-variable-is (Number digits places) e = absurd (false≢true e)
-variable-is String e = absurd (false≢true e)
-variable-is Variable e = refl
-variable-is (Word k) e = absurd (false≢true e)
-variable-is (Punctuator k) e = absurd (false≢true e)
-
-variable-not : (number : List ℕ → ℕ) (text w : List ℕ) (t : Token) (at end : ℕ) → is_variable t ≡ false → w ≡ numbered number text t at end w
-variable-not number text w (Number digits places) at end e = refl
-variable-not number text w String at end e = refl
-variable-not number text w Variable at end e = absurd (false≢true (sym e))
-variable-not number text w (Word k) at end e = refl
-variable-not number text w (Punctuator k) at end e = refl
+variable-not : (number : List ℕ → ℕ) (text w : List ℕ) (t : Token) (at end : ℕ) → (t ≡ Variable → ⊥) → w ≡ numbered number text t at end w
+variable-not number text w (Number digits places) at end n = refl
+variable-not number text w String at end n = refl
+variable-not number text w Variable at end n = absurd (n refl)
+variable-not number text w (Word k) at end n = refl
+variable-not number text w (Punctuator k) at end n = refl
 
 -- what the lexer finds stands in the text
 stands : (text : List ℕ) (from : ℕ) (t : Token) (at end : ℕ) → Ahead from (length text) (Found t at end) → Munch text from (Found t at end) → Stands text t at end
 stands text from t at end a m = record {
   order = a.goes;
   inside = a.ends;
-  long = λ e. omega (arith, long-variable m.2 (ap is_variable e), length-slice at end text a.ends);
+  long = λ e. omega (arith, long-variable m.2 e, length-slice at end text a.ends);
 }
 
 -- the same of a lexeme that the code holds
@@ -134,8 +116,8 @@ module _ (text : List ℕ) (from : ℕ) (x : Lexeme) (is : x ≡ lexeme_at text 
   pub found-stands : Stands text t at end
   found-stands = stands text from t at end found-ahead (subst (Munch text from) (sym is ∙ found) (munch text from))
 
-  pub found-variable : (b : Bool) → b ≡ is_variable t → b ≡ true → Stands text Variable at end
-  found-variable b e h = subst (λ t. Stands text t at end) (variable-is t (sym e ∙ h)) found-stands
+  pub found-variable : t ≡ Variable → Stands text Variable at end
+  found-variable e = subst (λ t. Stands text t at end) e found-stands
 
 -- the code takes the name as a part of the text
 pub variable-numbered : (number : List ℕ → ℕ) (text w v : List ℕ) (at end n : ℕ) → n ≡ number (take (end - 1 - (at + 2)) (drop (at + 2) text)) →
@@ -179,24 +161,23 @@ module _ (number : List ℕ → ℕ) (text w₀ : List ℕ) where
           size = size ∙ r.size;
         }
 
-    -- by the test whether it is a variable
-    module _ (t : Token) (at end : ℕ) (found : x ≡ Found t at end) (b : Bool) (e : b ≡ is_variable t) where
-      pub resolving-variable : b ≡ true → (v : List ℕ) → v ≡ numbered number text Variable at end w → length v ≡ length w → Resolving number text w₀ v end
-      resolving-variable h v i size = resolving-on t at end v found (i ∙ ap (λ t. numbered number text t at end w) (sym (variable-is t (sym e ∙ h)))) size
+    -- whether it is a variable
+    module _ (t : Token) (at end : ℕ) (found : x ≡ Found t at end) where
+      pub resolving-variable : t ≡ Variable → (v : List ℕ) → v ≡ numbered number text Variable at end w → length v ≡ length w → Resolving number text w₀ v end
+      resolving-variable e v i size = resolving-on t at end v found (i ∙ ap (λ t. numbered number text t at end w) (sym e)) size
 
-      pub resolving-other : b ≡ false → Resolving number text w₀ w end
-      resolving-other h = resolving-on t at end w found (variable-not number text w t at end (sym e ∙ h)) refl
+      pub resolving-other : (t ≡ Variable → ⊥) → Resolving number text w₀ w end
+      resolving-other n = resolving-on t at end w found (variable-not number text w t at end n) refl
 
     -- where no token stands nothing changes any more
-    stopped : ((rest : ℕ → List ℕ → List ℕ) → onward number text x w rest ≡ w) → w ≡ resolved_slots number text w₀
-    stopped none = go r.steps r.comes
+    pub resolved : ((t : Token) (at end : ℕ) → x ≡ Found t at end → ⊥) → w ≡ resolved_slots number text w₀
+    resolved none = go r.steps r.comes
       where
+        same : (x : Lexeme) → ((t : Token) (at end : ℕ) → x ≡ Found t at end → ⊥) → (rest : ℕ → List ℕ → List ℕ) → onward number text x w rest ≡ w
+        same (Found t at end) none rest = absurd (none t at end refl)
+        same (Bad at end) none rest = refl
+        same End none rest = refl
+
         go : (n : ℕ) → resolved_from number text n from w ≡ resolved_slots number text w₀ → w ≡ resolved_slots number text w₀
         go zero e = sym (no_step number text from w) ∙ e
-        go (suc n) e = sym (none (resolved_from number text n)) ∙ sym (one-step number text from w n x (sym is)) ∙ e
-
-    pub resolved-bad : (at end : ℕ) → x ≡ Bad at end → w ≡ resolved_slots number text w₀
-    resolved-bad at end bad = stopped (λ rest. ap (λ x. onward number text x w rest) bad)
-
-    pub resolved-end : x ≡ End → w ≡ resolved_slots number text w₀
-    resolved-end end = stopped (λ rest. ap (λ x. onward number text x w rest) end)
+        go (suc n) e = sym (same x none (resolved_from number text n)) ∙ sym (one-step number text from w n x (sym is)) ∙ e

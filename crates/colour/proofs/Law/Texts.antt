@@ -1,92 +1,102 @@
--- Hex digits, and texts by their length.
+-- Six hex digits, and basic words.
+use Rattle.std.specs.Prelude.{Option, Some, None}
+use Rattle.std.specs.Char.{to_ascii_lowercase}
 use mathlib.Core.Path.{◌≡◌, refl}
-use mathlib.Core.Bool.{Bool, true, false, cond, not, ◌&&◌, ◌||◌, false≢true, and-false, and-eq-true_iff}
-use mathlib.Core.List.{List, [], ◌∷◌}
-use Prim.Native.Nat.{ℕ, zero, suc, ◌+◌, ◌*◌, ◌<◌}
+use mathlib.Core.Bool.{Bool, true, false, cond, ◌&&◌}
+use mathlib.Core.List.{List, [], ◌∷◌, map}
+use Prim.Native.Nat.{ℕ, suc, ◌<◌, ◌+◌, ◌*◌}
 use native.Mathlib.Omega.{arith}
-use borrow.Author.Tests.{ne_eqb, eqb-true, eqb-false, leb-true, leb-false, lt-leb}
-use lib.Dec.{eqb, leb}
-use lib.ListN.{length, get_or, drop}
-use Rattle.number.specs.Decimal.{is_digit}
-use Rattle.lexer.specs.Bytes.{is_hex_digit}
-use Rattle.lexer.proofs.Law.Runs.{by-test}
+use native.Mathlib.Numerals.{add-one}
+use denote.Bor.{Bor}
+use lib.Dec.{eqb}
+use lib.ListN.{length, get_or, take, drop}
+use lib.Seq.{drop-cons}
+use Rattle.std.specs.Cmp.Lexicographic.{pointwise}
+use Rattle.std.proofs.lemmas.Bool.Decides.{nat_tests}
+use Rattle.lexer.proofs.Law.Texts.{decided}
+use Rattle.lexer.specs.Bytes.{same, begins, is_hex_digit, place_in}
+use Rattle.words.specs.Table.{folded}
 use Rattle.colour.specs.Colour.{of_bytes}
-use Rattle.colour.specs.Inner.{last_bits}
-use Rattle.colour.specs.Text.{hex_value, short_hex, long_hex, hex_text}
-use Rattle.colour.specs.declared.text.Named.TheVariants.{Known, Unknown}
+use Rattle.colour.specs.Inner.{byte_of, found}
+use Rattle.colour.specs.Text.{short_hex, long_hex, hex_value, Basic, word, colour, first}
+use Rattle.colour.specs.declared.colour.Colour.{Colour}
 
--- ---- hex digits
+-- ---- six hex digits
 
-last-below : (b : ℕ) → last_bits b < 16
-last-below b = by-test (λ n. n < 16) (is_digit b) (λ e. omega arith) (λ e. omega arith)
+abbrev pub of_three : Option ℕ → Option ℕ → Option ℕ → Option Colour
+of_three None g b = None
+of_three (Some r) None b = None
+of_three (Some r) (Some g) None = None
+of_three (Some r) (Some g) (Some b) = Some (of_bytes r g b)
 
-pub small : (r b : ℕ) → r ≡ last_bits b → r < 16
-small r b e = rw e (last-below b)
+by_tests : (red green blue : Bool) (r g b : ℕ) →
+    cond {A = Option Colour} (red && (green && blue)) (Some (of_bytes r g b)) None ≡
+    of_three (cond {A = Option ℕ} red (Some r) None) (cond {A = Option ℕ} green (Some g) None) (cond {A = Option ℕ} blue (Some b) None)
+by_tests false green blue r g b = refl
+by_tests true false blue r g b = refl
+by_tests true true false r g b = refl
+by_tests true true true r g b = refl
 
--- whether all numbers below n pass a test
-abbrev all_below : (ℕ → Bool) → ℕ → Bool
-all_below p zero = true
-all_below p (suc n) = p n && all_below p n
-
-of-below : (p : ℕ → Bool) (n b : ℕ) → all_below p n ≡ true → b < n → p b ≡ true
-of-below p zero b e h = absurd (omega arith)
-of-below p (suc n) b e h = let r = (and-eq-true_iff (p n) (all_below p n)).0 e in go (eqb b n) refl r.0 (of-below p n b r.1)
-  where
-    go : (t : Bool) → eqb b n ≡ t → p n ≡ true → (b < n → p b ≡ true) → p b ≡ true
-    go true i last rest = rw (eqb-true b n i) last
-    go false i last rest = rest (omega (arith, eqb-false b n i))
-
--- the last hex digit is `f`, which is 102
-hex-limit : (b : ℕ) → is_hex_digit b ≡ true → b < 103
-hex-limit b e = go (leb b 102) refl
-  where
-    go : (t : Bool) → leb b 102 ≡ t → b < 103
-    go true i = omega (arith, leb-true b 102 i)
-    go false i =
-        let high : 102 < b = leb-false b 102 i in
-        absurd (false≢true (rw (lt-leb b 57 (omega arith), lt-leb b 70 (omega arith), i, and-false (leb 48 b), and-false (leb 65 b), and-false (leb 97 b)) at e))
-
--- the place of a hex digit is its last four bits, or those and 9
-pub place_is : (b : ℕ) → is_hex_digit b ≡ true → hex_value b ≡ last_bits b
-place_is b e =
-    let test = of-below (λ c. not (is_hex_digit c) || eqb (hex_value c) (last_bits c)) 103 b refl (hex-limit b e) in
-    eqb-true (hex_value b) (last_bits b) (rw e at test)
-
-places-are : (b c : ℕ) → is_hex_digit b && is_hex_digit c ≡ true → (hex_value b ≡ last_bits b) × (hex_value c ≡ last_bits c)
-places-are b c e = let h = (and-eq-true_iff (is_hex_digit b) (is_hex_digit c)).0 e in (place_is b h.0, place_is c h.1)
-
-pub short-is : (r g b : ℕ) → is_hex_digit r && (is_hex_digit g && is_hex_digit b) ≡ true →
-    short_hex r g b ≡ Known (of_bytes (17 * last_bits r) (17 * last_bits g) (17 * last_bits b))
-unfolding short_hex
-short-is r g b e =
-    let h = (and-eq-true_iff (is_hex_digit r) (is_hex_digit g && is_hex_digit b)).0 e in
-    let i = places-are g b h.1 in
-    rw (e, place_is r h.0, i.0, i.1)
-
-pub long-is : (r s g h b c : ℕ) → (is_hex_digit r && is_hex_digit s) && ((is_hex_digit g && is_hex_digit h) && (is_hex_digit b && is_hex_digit c)) ≡ true →
-    long_hex r s g h b c ≡ Known (of_bytes (16 * last_bits r + last_bits s) (16 * last_bits g + last_bits h) (16 * last_bits b + last_bits c))
+pub long-is : (r s g h b c : ℕ) → long_hex r s g h b c ≡ of_three (byte_of r s) (byte_of g h) (byte_of b c)
 unfolding long_hex
-long-is r s g h b c e =
-    let i = (and-eq-true_iff (is_hex_digit r && is_hex_digit s) ((is_hex_digit g && is_hex_digit h) && (is_hex_digit b && is_hex_digit c))).0 e in
-    let j = (and-eq-true_iff (is_hex_digit g && is_hex_digit h) (is_hex_digit b && is_hex_digit c)).0 i.1 in
-    let red = places-are r s i.0 in
-    let green = places-are g h j.0 in
-    let blue = places-are b c j.1 in
-    rw (e, red.0, red.1, green.0, green.1, blue.0, blue.1)
+long-is r s g h b c = by_tests (is_hex_digit r && is_hex_digit s) (is_hex_digit g && is_hex_digit h) (is_hex_digit b && is_hex_digit c) _ _ _
 
--- a text's length says what it can be
-pub hex-of : (text : List ℕ) →
-    hex_text (drop 1 text) ≡
-    cond (eqb (length text) 4) (short_hex (get_or text 1 0) (get_or text 2 0) (get_or text 3 0))
-    (cond (eqb (length text) 7) (long_hex (get_or text 1 0) (get_or text 2 0) (get_or text 3 0) (get_or text 4 0) (get_or text 5 0) (get_or text 6 0)) Unknown)
-hex-of [] = refl
-hex-of (p ∷ []) = refl
-hex-of (p ∷ r ∷ []) = refl
-hex-of (p ∷ r ∷ g ∷ []) = refl
-hex-of (p ∷ r ∷ g ∷ b ∷ []) = refl
-hex-of (p ∷ r ∷ s ∷ g ∷ h ∷ []) = refl
-hex-of (p ∷ r ∷ s ∷ g ∷ h ∷ b ∷ []) = refl
-hex-of (p ∷ r ∷ s ∷ g ∷ h ∷ b ∷ c ∷ []) = refl
-hex-of (p ∷ r ∷ s ∷ g ∷ h ∷ b ∷ c ∷ d ∷ ds) =
-    let n = length (p ∷ r ∷ s ∷ g ∷ h ∷ b ∷ c ∷ d ∷ ds) in
-    rw (ne_eqb n 4 (λ e. omega (arith, e)), ne_eqb n 7 (λ e. omega (arith, e)))
+idem : (t : Bool) → (t && t) ≡ t
+idem true = refl
+idem false = refl
+
+-- a digit that stands for two
+pub doubled : (r g b : ℕ) → long_hex r r g g b b ≡ short_hex r g b
+unfolding long_hex short_hex
+doubled r g b =
+    let twice : (n : ℕ) → 16 * n + n ≡ 17 * n = λ n. omega arith in
+    rw (idem (is_hex_digit r), idem (is_hex_digit g), idem (is_hex_digit b), twice (hex_value r), twice (hex_value g), twice (hex_value b))
+
+-- ---- what stands before them
+
+pub hash : (text : List ℕ) → pointwise eqb (take 1 text) (35 ∷ []) ≡ begins (35 ∷ []) text
+hash [] = refl
+hash (b ∷ bs) = refl
+
+-- ---- basic words
+
+letter : (b : ℕ) → to_ascii_lowercase b ≡ folded true b
+letter b = grind (arith, nat_tests)
+
+letters : (text : List ℕ) → map to_ascii_lowercase text ≡ map (folded true) text
+letters [] = refl
+letters (b ∷ bs) = rw (letter b, letters bs)
+
+-- what `eq_ignore_ascii_case` says
+pub same-letters : (r : Bool) (s t : List ℕ) →
+    (r ≡ true → map to_ascii_lowercase s ≡ map to_ascii_lowercase t) × (map to_ascii_lowercase s ≡ map to_ascii_lowercase t → r ≡ true) →
+    r ≡ same (map (folded true) s) (map (folded true) t)
+same-letters r s t h = decided r (map (folded true) s) (map (folded true) t) (rw (letters s, letters t) at h)
+
+module _ (table : List (Bor (List ℕ) × Colour)) (i : ℕ) (text : List ℕ) (d : Bor (List ℕ) × Colour) (inside : i < length table) where
+  abbrev pub at_word : Bool
+  at_word = same (map (folded true) text) (map (folded true) (get_or table i d).0.now)
+
+  step : found (drop i table) text ≡ cond at_word (Some (get_or table i d).1) (found (drop (i + 1) table) text)
+  unfolding found
+  step = rw (add-one i, drop-cons table i d inside)
+
+  pub here : at_word ≡ true → Some (get_or table i d).1 ≡ found (drop i table) text
+  here e = rw (step, e)
+
+  pub elsewhere : at_word ≡ false → found (drop (i + 1) table) text ≡ found (drop i table) text
+  elsewhere e = rw (step, e)
+
+-- the colour of the first word that a text is in small letters
+abbrev pub named : List Basic → List ℕ → Option Colour
+named [] small = None
+named (b ∷ bs) small = cond (same small (word b)) (Some (colour b)) (named bs small)
+
+pub place-named : (bs : List Basic) (small : List ℕ) → first (drop (place_in (map word bs) small) bs) ≡ named bs small
+place-named [] small = refl
+place-named (b ∷ bs) small = go (same small (word b)) (place-named bs small)
+  where
+    go : (t : Bool) → first (drop (place_in (map word bs) small) bs) ≡ named bs small →
+        first (drop (cond t 0 (suc (place_in (map word bs) small))) (b ∷ bs)) ≡ cond t (Some (colour b)) (named bs small)
+    go true rest = refl
+    go false rest = rest

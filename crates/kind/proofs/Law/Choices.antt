@@ -1,21 +1,26 @@
--- Laws of kinds that are equal by test, of what some kind of a set has, and of what choices come to.
-use mathlib.Core.Path.{◌≡◌, refl, ◌∙◌, ap, subst}
-use mathlib.Core.Bool.{Bool, true, false, not, cond, ◌&&◌, ◌||◌}
-use mathlib.Core.List.{List, [], ◌∷◌}
+-- Laws of kinds that are equal by test, of what some kind of a set has, and of what choices give.
+use Rattle.std.specs.Prelude.{Option, Some, None}
+use Rattle.std.specs.Option.{option_map}
+use Rattle.std.proofs.lemmas.Option.{same_Some}
+use mathlib.Core.Path.{◌≡◌, refl, sym, ◌∙◌, ap, subst}
+use mathlib.Core.Bool.{Bool, true, false, not, cond, ◌&&◌, ◌||◌, or-false, or_assoc}
+use mathlib.Core.List.{List, [], ◌∷◌, ◌++◌, append-nil, append_assoc}
+use Prim.Native.Nat.{ℕ, ◌+◌, ◌<◌}
+use native.Mathlib.Omega.{arith}
 use lib.Dec.{T}
+use lib.ListN.{length, take, get_or}
+use Rattle.std.proofs.lemmas.List.{take_more}
 use lib.Ieee.Bits.{is_true}
 use lib.Ieee.Fits.{and_i, and_l, and_r}
 use Rattle.kind.specs.Kind.{kinds, eq_kind}
 use Rattle.kind.specs.Set.{has, set_of, some_of, some, single_of, union_of}
-use Rattle.kind.specs.Choice.{faults, gives, sets_in}
-use Rattle.kind.specs.Inner.{outcomes_of, no_outcomes, outcome_of, joined, joined_eight}
+use Rattle.kind.specs.Choice.{some_choice, faults, gives}
+use Rattle.kind.specs.Rule.{rule_of}
+use Rattle.kind.specs.Inner.{choices_of}
 use Rattle.kind.specs.declared.kind.Kind.{Kind}
 use Rattle.kind.specs.declared.kind.Kind.TheVariants.{Undefined, Null, Boolean, Number, String, Vec2, Vec3, Vec4}
-use Rattle.kind.specs.declared.kind.Ruled.{Ruled}
-use Rattle.kind.specs.declared.kind.Ruled.TheVariants.{Fault, Gives}
 use Rattle.kind.specs.declared.set.Kinds.{Kinds}
-use Rattle.kind.specs.declared.choice.Outcomes.{Outcomes}
-use Rattle.kind.specs.declared.choice.Parts.TheVariants as parts
+use Rattle.kind.specs.declared.operation.Operation.{Operation}
 use Rattle.kind.proofs.Law.Tests.{same_kind}
 
 -- ---- tests
@@ -45,13 +50,13 @@ unless_not false h = h tt
 pub kind-is : (k l : Kind) → T (eq_kind k l) → k ≡ l
 kind-is k l h = same_kind k l (is_true (eq_kind k l) h)
 
-pub fault-is : (r : Ruled) → T (faults r) → r ≡ Fault
-fault-is Fault h = refl
-fault-is (Gives k) h = absurd h
+pub fault-is : (r : Option Kind) → T (faults r) → r ≡ None
+fault-is None h = refl
+fault-is (Some k) h = absurd h
 
-pub gives-is : (k : Kind) (r : Ruled) → T (gives k r) → r ≡ Gives k
-gives-is k Fault h = absurd h
-gives-is k (Gives l) h = ap Gives (kind-is l k h)
+pub gives-is : (k : Kind) (r : Option Kind) → T (gives k r) → r ≡ Some k
+gives-is k None h = absurd h
+gives-is k (Some l) h = ap Some (kind-is l k h)
 
 -- ---- some kind
 
@@ -101,66 +106,123 @@ has-set p Vec2 = refl
 has-set p Vec3 = refl
 has-set p Vec4 = refl
 
--- ---- what choices come to
+-- ---- what choices give
 
 -- with no set there is one choice
-pub no-sets : (rule : List Kind → Ruled) → outcome_of (rule []) ≡ outcomes_of rule []
-unfolding set_of single_of outcomes_of
+pub no-sets : (rule : List Kind → (Option Kind)) → option_map single_of (rule []) ≡ choices_of rule []
+unfolding set_of single_of choices_of
 no-sets rule = go (rule [])
   where
-    go : (r : Ruled) → outcome_of r ≡ record { fault = faults r; kinds = set_of (λ k. gives k r) }
-    go Fault = refl
-    go (Gives k) = refl
+    go : (r : Option Kind) → option_map single_of r ≡ cond (faults r) None (Some (set_of (λ k. gives k r)))
+    go None = refl
+    go (Some k) = refl
 
-abbrev only_if : Bool → Outcomes → Outcomes
-only_if b x = record { fault = b && x.fault; kinds = set_of (λ k. b && has x.kinds k) }
+some_of-after : (ls : List Kind) (k : Kind) (p : Kind → Bool) → some_of (ls ++ k ∷ []) p ≡ (some_of ls p || p k)
+some_of-after [] k p = or-false (p k)
+some_of-after (l ∷ ls) k p = ap (λ b. p l || b) (some_of-after ls k p) ∙ sym (or_assoc (p l) (some_of ls p) (p k))
 
-only-if : (b : Bool) (x : Outcomes) → cond b x no_outcomes ≡ only_if b x
-unfolding set_of no_outcomes
-only-if true x = refl
-only-if false x = refl
+-- where two have no fault, neither has their union
+both-given : (a b : Bool) (q r : Kind → Bool) (s t : Kinds) → Some s ≡ cond a None (Some (set_of q)) → Some t ≡ cond b None (Some (set_of r)) →
+    Some (union_of s t) ≡ cond (a || b) None (Some (set_of (λ k. q k || r k)))
+unfolding set_of union_of
+both-given true b q r s t e f = cc
+both-given false true q r s t e f = cc
+both-given false false q r s t e f = λ i. Some (union_of (same_Some s (set_of q) e i) (same_Some t (set_of r) f i))
 
-joined-eight : (rule : List Kind → Ruled) (s : Kinds) (ss : List Kinds) →
-    joined_eight
-    (only_if s.undefined (outcomes_of (λ ks. rule (Undefined ∷ ks)) ss))
-    (only_if s.null (outcomes_of (λ ks. rule (Null ∷ ks)) ss))
-    (only_if s.boolean (outcomes_of (λ ks. rule (Boolean ∷ ks)) ss))
-    (only_if s.number (outcomes_of (λ ks. rule (Number ∷ ks)) ss))
-    (only_if s.string (outcomes_of (λ ks. rule (String ∷ ks)) ss))
-    (only_if s.vec2 (outcomes_of (λ ks. rule (Vec2 ∷ ks)) ss))
-    (only_if s.vec3 (outcomes_of (λ ks. rule (Vec3 ∷ ks)) ss))
-    (only_if s.vec4 (outcomes_of (λ ks. rule (Vec4 ∷ ks)) ss))
-    ≡ outcomes_of rule (s ∷ ss)
-unfolding set_of union_of outcomes_of no_outcomes joined joined_eight
-joined-eight rule s ss = refl
+some-fault : (b : Bool) (s : Kinds) → None ≡ cond b None (Some s) → T b
+some-fault true s e = tt
+some-fault false s e = cc
 
--- with a first set, what the choices of each of its kinds come to
-pub one_more : (rule : List Kind → Ruled) (s : Kinds) (ss : List Kinds) →
-    joined_eight
-    (cond s.undefined (outcomes_of (λ ks. rule (Undefined ∷ ks)) ss) no_outcomes)
-    (cond s.null (outcomes_of (λ ks. rule (Null ∷ ks)) ss) no_outcomes)
-    (cond s.boolean (outcomes_of (λ ks. rule (Boolean ∷ ks)) ss) no_outcomes)
-    (cond s.number (outcomes_of (λ ks. rule (Number ∷ ks)) ss) no_outcomes)
-    (cond s.string (outcomes_of (λ ks. rule (String ∷ ks)) ss) no_outcomes)
-    (cond s.vec2 (outcomes_of (λ ks. rule (Vec2 ∷ ks)) ss) no_outcomes)
-    (cond s.vec3 (outcomes_of (λ ks. rule (Vec3 ∷ ks)) ss) no_outcomes)
-    (cond s.vec4 (outcomes_of (λ ks. rule (Vec4 ∷ ks)) ss) no_outcomes)
-    ≡ outcomes_of rule (s ∷ ss)
-one_more rule s ss =
-    (λ i. joined_eight
-    (only-if s.undefined (outcomes_of (λ ks. rule (Undefined ∷ ks)) ss) i)
-    (only-if s.null (outcomes_of (λ ks. rule (Null ∷ ks)) ss) i)
-    (only-if s.boolean (outcomes_of (λ ks. rule (Boolean ∷ ks)) ss) i)
-    (only-if s.number (outcomes_of (λ ks. rule (Number ∷ ks)) ss) i)
-    (only-if s.string (outcomes_of (λ ks. rule (String ∷ ks)) ss) i)
-    (only-if s.vec2 (outcomes_of (λ ks. rule (Vec2 ∷ ks)) ss) i)
-    (only-if s.vec3 (outcomes_of (λ ks. rule (Vec3 ∷ ks)) ss) i)
-    (only-if s.vec4 (outcomes_of (λ ks. rule (Vec4 ∷ ks)) ss) i))
-    ∙ joined-eight rule s ss
+module _ (rule : List Kind → (Option Kind)) (s : Kinds) (ss : List Kinds) where
+  abbrev faulty : Kind → Bool
+  faulty k = has s k && some_choice ss (λ ks. faults (rule (k ∷ ks)))
 
--- with more sets than four, where a rule faults for the five kinds that stand for them
-pub more-sets : (rule : List Kind → Ruled) (e : Bool) → rule (Boolean ∷ Boolean ∷ Boolean ∷ Boolean ∷ Boolean ∷ []) ≡ Fault →
-    record { fault = not e; kinds = set_of (λ k. false) } ≡ outcomes_of rule (sets_in (parts.More e))
-unfolding set_of single_of outcomes_of
-more-sets rule true h = refl
-more-sets rule false h = rw h
+  abbrev giving : Kind → Kind → Bool
+  giving j k = has s k && some_choice ss (λ ks. gives j (rule (k ∷ ks)))
+
+  -- what the choices give whose first kind is one of some
+  abbrev pub given_by : List Kind → Option Kinds
+  given_by ls = cond (some_of ls faulty) None (Some (set_of (λ j. some_of ls (giving j))))
+
+  pub by-none : Some (set_of (λ j. false)) ≡ given_by []
+  by-none = refl
+
+  pub by-all : given_by kinds ≡ choices_of rule (s ∷ ss)
+  unfolding choices_of
+  by-all = refl
+
+  after : (ls : List Kind) (k : Kind) → given_by (ls ++ k ∷ []) ≡ cond (some_of ls faulty || faulty k) None (Some (set_of (λ j. some_of ls (giving j) || giving j k)))
+  after ls k = λ i. cond (some_of-after ls k faulty i) None (Some (set_of (λ j. some_of-after ls k (giving j) i)))
+
+  module _ (k : Kind) where
+    -- one more kind, which is not in the set
+    pub kind-passed : (ls : List Kind) → has s k ≡ false → given_by ls ≡ given_by (ls ++ k ∷ [])
+    kind-passed ls e =
+        sym
+        (after ls k
+        ∙ (λ i. cond (some_of ls faulty || (e i && some_choice ss (λ ks. faults (rule (k ∷ ks))))) None
+        (Some (set_of (λ j. some_of ls (giving j) || (e i && some_choice ss (λ ks. gives j (rule (k ∷ ks))))))))
+        ∙ (λ i. cond (or-false (some_of ls faulty) i) None (Some (set_of (λ j. or-false (some_of ls (giving j)) i)))))
+
+    -- or is in it
+    pub kind-given : (ls : List Kind) (t u : Kinds) → has s k ≡ true → Some t ≡ given_by ls → Some u ≡ choices_of (λ ks. rule (k ∷ ks)) ss → Some (union_of t u) ≡ given_by (ls ++ k ∷ [])
+    unfolding choices_of
+    kind-given ls t u h e f =
+        both-given (some_of ls faulty) (some_choice ss (λ ks. faults (rule (k ∷ ks)))) (λ j. some_of ls (giving j)) (λ j. some_choice ss (λ ks. gives j (rule (k ∷ ks)))) t u e f
+        ∙ sym
+        (after ls k
+        ∙ (λ i. cond (some_of ls faulty || (h i && some_choice ss (λ ks. faults (rule (k ∷ ks))))) None
+        (Some (set_of (λ j. some_of ls (giving j) || (h i && some_choice ss (λ ks. gives j (rule (k ∷ ks)))))))))
+
+    -- and some choice with it faults
+    pub kind-faulted : has s k ≡ true → None ≡ choices_of (λ ks. rule (k ∷ ks)) ss → None ≡ choices_of rule (s ∷ ss)
+    unfolding choices_of
+    kind-faulted h e =
+        let f = some-fault (some_choice ss (λ ks. faults (rule (k ∷ ks)))) _ e in
+        sym (ap (λ b. cond b None (Some (set_of (λ j. some_choice (s ∷ ss) (λ ks. gives j (rule ks))))))
+        (is_true (some_of kinds faulty) (any-intro faulty k (and_i (has s k) (some_choice ss (λ ks. faults (rule (k ∷ ks)))) (subst T (sym h) tt) f))))
+
+-- a kind that is chosen is behind those before it
+chosen-after : (o : Operation) (js ls : List Kind) (k : Kind) (ss : List Kinds) → ls ≡ js ++ k ∷ [] →
+    choices_of (λ ks. rule_of o (ls ++ ks)) ss ≡ choices_of (λ ks. rule_of o (js ++ (k ∷ ks))) ss
+chosen-after o js ls k ss e =
+    ap (λ ls. choices_of (λ ks. rule_of o (ls ++ ks)) ss) e ∙ ap (λ r. choices_of r ss) (λ i. λ ks. rule_of o (append_assoc js (k ∷ []) ks i))
+
+pub no-parts : (o : Operation) (js : List Kind) (ss : List Kinds) → length ss < 1 →
+    option_map single_of (rule_of o js) ≡ choices_of (λ ks. rule_of o (js ++ ks)) ss
+no-parts o js [] h = ap (λ ks. option_map single_of (rule_of o ks)) (sym (append-nil js)) ∙ no-sets (λ ks. rule_of o (js ++ ks))
+no-parts o js (s ∷ ss) h = absurd (omega arith)
+
+-- the kinds of a first set in turn, some operands being chosen
+module _ (o : Operation) (js : List Kind) (s : Kinds) (ss : List Kinds) where
+  abbrev after_these : List Kind → Option Kind
+  after_these ks = rule_of o (js ++ ks)
+
+  module _ (i : ℕ) (d : Kind) (inside : i < 8) where
+    abbrev k : Kind
+    k = get_or kinds i d
+
+    next : take (i + 1) kinds ≡ take i kinds ++ k ∷ []
+    next = take_more kinds i d inside
+
+    pub at-passed : (r : Bool) → r ≡ has s k → r ≡ false → (t : Kinds) → Some t ≡ given_by after_these s ss (take i kinds) →
+        Some t ≡ given_by after_these s ss (take (i + 1) kinds)
+    at-passed r h f t g = g ∙ kind-passed after_these s ss k (take i kinds) (sym h ∙ f) ∙ ap (given_by after_these s ss) (sym next)
+
+    module _ (r : Bool) (h : r ≡ has s k) (f : r ≡ true) (bs : List Kind) (same : bs ≡ js) (ls : List Kind) (pushed : ls ≡ bs ++ k ∷ []) (given : Option Kinds)
+        (is : given ≡ choices_of (λ ks. rule_of o (ls ++ ks)) ss) where
+      chosen : ls ≡ js ++ k ∷ []
+      chosen = pushed ∙ ap (λ bs. bs ++ k ∷ []) same
+
+      pub at-given : (t u v : Kinds) → Some t ≡ given_by after_these s ss (take i kinds) → given ≡ Some u → v ≡ union_of t u →
+          Some v ≡ given_by after_these s ss (take (i + 1) kinds)
+      at-given t u v g was un =
+          ap Some un
+          ∙ kind-given after_these s ss k (take i kinds) t u (sym h ∙ f) g (sym was ∙ is ∙ chosen-after o js ls k ss chosen)
+          ∙ ap (given_by after_these s ss) (sym next)
+
+      pub at-faulted : given ≡ None → None ≡ choices_of after_these (s ∷ ss)
+      at-faulted was = kind-faulted after_these s ss k (sym h ∙ f) (sym was ∙ is ∙ chosen-after o js ls k ss chosen)
+
+  pub all-given : (i : ℕ) (t : Kinds) → i ≡ 8 → Some t ≡ given_by after_these s ss (take i kinds) → Some t ≡ choices_of after_these (s ∷ ss)
+  all-given i t e g = g ∙ ap (λ n. given_by after_these s ss (take n kinds)) e ∙ by-all after_these s ss

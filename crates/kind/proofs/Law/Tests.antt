@@ -1,4 +1,5 @@
 -- A computed test of all kinds: two rules that give the same for each kind are the same.
+use Rattle.std.specs.Prelude.{Option, Some, None}
 use mathlib.Core.Path.{◌≡◌, refl, sym, ◌∙◌, ap}
 use mathlib.Core.Bool.{Bool, true, false, false≢true, and-eq-true_iff}
 use mathlib.Core.List.{List, [], ◌∷◌}
@@ -9,8 +10,6 @@ use Rattle.kind.specs.Kind.{kinds, number_of, eq_kind}
 use Rattle.kind.specs.Set.{every_of}
 use Rattle.kind.specs.declared.kind.Kind.{Kind}
 use Rattle.kind.specs.declared.kind.Kind.TheVariants.{Undefined, Null, Boolean, Number, String, Vec2, Vec3, Vec4}
-use Rattle.kind.specs.declared.kind.Ruled.{Ruled}
-use Rattle.kind.specs.declared.kind.Ruled.TheVariants.{Fault, Gives}
 
 -- ---- every kind of a test
 
@@ -50,27 +49,23 @@ kind_at Vec4 = refl
 pub same_kind : (k l : Kind) → eq_kind k l ≡ true → k ≡ l
 same_kind k l e = sym (kind_at k) ∙ ap (λ (n : ℕ). get_or kinds n Undefined) (eqb-true (number_of k) (number_of l) e) ∙ kind_at l
 
-abbrev pub eq_ruled : Ruled → Ruled → Bool
-eq_ruled Fault Fault = true
-eq_ruled Fault (Gives l) = false
-eq_ruled (Gives k) Fault = false
-eq_ruled (Gives k) (Gives l) = eq_kind k l
+abbrev pub eq_ruled : Option Kind → Option Kind → Bool
+eq_ruled None None = true
+eq_ruled None (Some l) = false
+eq_ruled (Some k) None = false
+eq_ruled (Some k) (Some l) = eq_kind k l
 
-same-ruled : (a b : Ruled) → eq_ruled a b ≡ true → a ≡ b
-same-ruled Fault Fault e = refl
-same-ruled Fault (Gives l) e = absurd (false≢true e)
-same-ruled (Gives k) Fault e = absurd (false≢true e)
-same-ruled (Gives k) (Gives l) e = ap Gives (same_kind k l e)
+same-ruled : (a b : Option Kind) → eq_ruled a b ≡ true → a ≡ b
+same-ruled None None e = refl
+same-ruled None (Some l) e = absurd (false≢true e)
+same-ruled (Some k) None e = absurd (false≢true e)
+same-ruled (Some k) (Some l) e = ap Some (same_kind k l e)
 
--- ---- rules of one operand, of two and of three
+-- ---- rules of one operand, and of two
 
-pub by-test1 : (f g : Kind → Ruled) → every_of kinds (λ k. eq_ruled (f k) (g k)) ≡ true → (k : Kind) → f k ≡ g k
+by-test1 : (f g : Kind → (Option Kind)) → every_of kinds (λ k. eq_ruled (f k) (g k)) ≡ true → (k : Kind) → f k ≡ g k
 by-test1 f g e k = same-ruled (f k) (g k) (every-kind (λ k. eq_ruled (f k) (g k)) e k)
 
-pub by-test2 : (f g : Kind → Kind → Ruled) → every_of kinds (λ k. every_of kinds (λ l. eq_ruled (f k l) (g k l))) ≡ true →
+pub by-test2 : (f g : Kind → Kind → (Option Kind)) → every_of kinds (λ k. every_of kinds (λ l. eq_ruled (f k l) (g k l))) ≡ true →
     (k l : Kind) → f k l ≡ g k l
 by-test2 f g e k = by-test1 (f k) (g k) (every-kind (λ k. every_of kinds (λ l. eq_ruled (f k l) (g k l))) e k)
-
-pub by-test3 : (f g : Kind → Kind → Kind → Ruled) →
-    every_of kinds (λ k. every_of kinds (λ l. every_of kinds (λ m. eq_ruled (f k l m) (g k l m)))) ≡ true → (k l m : Kind) → f k l m ≡ g k l m
-by-test3 f g e k = by-test2 (f k) (g k) (every-kind (λ k. every_of kinds (λ l. every_of kinds (λ m. eq_ruled (f k l m) (g k l m)))) e k)

@@ -10,11 +10,10 @@ use Rattle.number.specs.declared.decimal.Decimal.{Decimal}
 use Rattle.number.specs.declared.decimal.Decimal.TheVariants as decimal
 use Rattle.number.proofs.Law.Reading.{EndsWithin, read-within}
 use Rattle.lexer.specs.Bytes.{is_space, is_name_byte, is_name_length, in_class, run, begins}
-use Rattle.lexer.specs.Punctuator.{spelled_by}
+use Rattle.std.specs.Prelude.{Some, None}
+use Rattle.lexer.specs.Punctuator.{Spelled, spelled_by}
 use Rattle.lexer.specs.Token.{Start, starting_at, string_at, variable_at, word_at, lexeme_of, punctuator_at, other_at, number_or, first_at, lexeme_at}
 use Rattle.lexer.specs.declared.bytes.Class.TheVariants.{Inside}
-use Rattle.lexer.specs.declared.punctuator.Spelled.{Spelled}
-use Rattle.lexer.specs.declared.punctuator.Spelled.TheVariants.{Listed, Refused}
 use Rattle.lexer.specs.declared.token.Lexeme.{Lexeme}
 use Rattle.lexer.specs.declared.token.Lexeme.TheVariants.{Found, Bad, End}
 use Rattle.lexer.proofs.Law.Runs.{by-test, run-cons, run-le, byte-within}
@@ -61,8 +60,8 @@ module _ (at limit : ℕ) (bs : List ℕ) (h : at + suc (length bs) ≤ limit) w
       record { starts = omega arith; goes = omega arith; ends = omega arith }
 
   spelled-ahead : (s : Spelled) → (0 < taken s) × (taken s ≤ suc (length bs)) → Ahead at limit (lexeme_of at s)
-  spelled-ahead (Listed k n) s = record { starts = omega arith; goes = omega (arith, s); ends = omega (arith, s) }
-  spelled-ahead (Refused n) s = record { starts = omega arith; goes = omega (arith, s); ends = omega (arith, s) }
+  spelled-ahead (Some k, n) s = record { starts = omega arith; goes = omega (arith, s); ends = omega (arith, s) }
+  spelled-ahead (None, n) s = record { starts = omega arith; goes = omega (arith, s); ends = omega (arith, s) }
 
   punctuator-ahead : (b : ℕ) → Ahead at limit (punctuator_at at (b ∷ bs))
   unfolding punctuator_at

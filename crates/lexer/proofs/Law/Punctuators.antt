@@ -1,17 +1,16 @@
 -- What the functions that tell punctuators lean on: laws over any list of spellings, so that nothing is worked out at a text that is not known.
 use mathlib.Core.Path.{◌≡◌, refl, sym, ◌∙◌, ap, ap₂}
-use mathlib.Core.Bool.{Bool, true, false, cond, not, ◌&&◌, ◌||◌, false≢true, and-eq-true_iff}
+use mathlib.Core.Bool.{Bool, true, false, not, ◌&&◌, ◌||◌, false≢true, and-eq-true_iff}
 use mathlib.Core.List.{List, [], ◌∷◌, ◌++◌, Memᴰ}
 use Prim.Native.Nat.{ℕ, zero, suc, ◌+◌, ◌≤◌, ◌<◌}
 use native.Mathlib.Omega.{arith}
 use borrow.Author.Tests.{eqb-true, ne_eqb, not-true}
-use lib.Dec.{eqb, leb, ltb, lit<}
+use lib.Dec.{eqb, leb, lit<}
 use lib.ListN.{length, get_or, drop, length-drop}
-use Rattle.lexer.specs.Bytes.{begins, place_in}
-use Rattle.lexer.specs.Punctuator.{punctuators, refused_operators, longer_if, longest_of, judged, spelled_by}
+use Rattle.std.specs.Prelude.{Option, None}
+use Rattle.lexer.specs.Bytes.{begins}
+use Rattle.lexer.specs.Punctuator.{punctuators, refused_operators, longer_if, longest_of, Spelled, judged, spelled_by}
 use Rattle.lexer.specs.Token.{lexeme_of, punctuator_at}
-use Rattle.lexer.specs.declared.punctuator.Spelled.{Spelled}
-use Rattle.lexer.specs.declared.punctuator.Spelled.TheVariants.{Listed, Refused}
 
 -- ---- a test of every spelling in a list
 
@@ -37,16 +36,11 @@ begins-fits (x ∷ s) (b ∷ bs) e = omega (arith, begins-fits s bs ((and-eq-tru
 
 -- how many bytes what is found takes
 abbrev pub taken : Spelled → ℕ
-taken (Listed k n) = n
-taken (Refused n) = n
+taken s = s.1
 
 judged-takes : (s : List ℕ) (m : ℕ) → length s ≤ m → 0 < m → (0 < taken (judged s)) × (taken (judged s) ≤ m)
 judged-takes [] m h k = (lit< tt, k)
-judged-takes (b ∷ bs) m h k = go (ltb (place_in punctuators (b ∷ bs)) (length punctuators)) (place_in punctuators (b ∷ bs))
-  where
-    go : (t : Bool) (i : ℕ) → let r = cond t (Listed i (suc (length bs))) (Refused (suc (length bs))) in (0 < taken r) × (taken r ≤ m)
-    go true i = (omega arith, h)
-    go false i = (omega arith, h)
+judged-takes (b ∷ bs) m h k = (omega arith, h)
 
 -- something is taken of a text that has a byte, and nothing past its end
 pub spelled-takes : (text : List ℕ) → 0 < length text → (0 < taken (spelled_by text)) × (taken (spelled_by text) ≤ length text)
@@ -57,9 +51,9 @@ spelled-takes text = judged-takes (longest_of (punctuators ++ refused_operators)
 pub punctuator-takes : (text : List ℕ) (at : ℕ) (r : Spelled) → at < length text → r ≡ spelled_by (drop at text) → (0 < taken r) × (at + taken r ≤ length text)
 punctuator-takes text at r h e = rw e (let l = length-drop at text in let t = spelled-takes (drop at text) (omega (arith, l)) in (t.0, omega (arith, l, t.1)))
 
-pub punctuator-is : (at : ℕ) (text : List ℕ) (r : Spelled) → r ≡ spelled_by (drop at text) → lexeme_of at r ≡ punctuator_at at (drop at text)
+pub punctuator-is : (at : ℕ) (text : List ℕ) (r : Spelled) (o : Option ℕ) → r.0 ≡ o → r ≡ spelled_by (drop at text) → lexeme_of at (o, r.1) ≡ punctuator_at at (drop at text)
 unfolding punctuator_at
-punctuator-is at text r e = ap (lexeme_of at) e
+punctuator-is at text r o k e = ap (λ (i : Option ℕ). lexeme_of at (i, r.1)) (sym k) ∙ ap (lexeme_of at) e
 
 -- ---- a byte that begins no spelling
 
@@ -92,7 +86,7 @@ none-begins ks ((x ∷ s) ∷ ss) b bs r e =
     let h = (and-eq-true_iff (among ks x) (all_of (begun ks) ss)).0 e in
     rw (ne_eqb b x (apart ks b x r h.0), none-begins ks ss b bs r h.1)
 
-pub unlisted : (ks : List ℕ) → all_of (begun ks) (punctuators ++ refused_operators) ≡ true → (b : ℕ) (bs : List ℕ) → Apart ks b → Refused 1 ≡ spelled_by (b ∷ bs)
+pub unlisted : (ks : List ℕ) → all_of (begun ks) (punctuators ++ refused_operators) ≡ true → (b : ℕ) (bs : List ℕ) → Apart ks b → (None, 1) ≡ spelled_by (b ∷ bs)
 unfolding spelled_by
 unlisted ks e b bs r = sym (ap judged (none-begins ks (punctuators ++ refused_operators) b bs r e))
 
@@ -131,37 +125,3 @@ three (b ∷ c ∷ d ∷ bs) = refl
 pub by_three : (text : List ℕ) → spelled_by (get_or text 0 0 ∷ get_or text 1 0 ∷ get_or text 2 0 ∷ []) ≡ spelled_by text
 unfolding spelled_by
 by_three text = ap judged (ap (longest_of (punctuators ++ refused_operators)) (three text) ∙ longest-padded 3 (punctuators ++ refused_operators) text refl)
-
--- ---- a byte that begins some spellings
-
--- the second byte tells which
-pub by-second : (b x : ℕ) (two one : Spelled) → ((d : ℕ) → two ≡ spelled_by (b ∷ x ∷ d ∷ [])) → ((c d : ℕ) → eqb c x ≡ false → one ≡ spelled_by (b ∷ c ∷ d ∷ [])) →
-    (c d : ℕ) → cond (eqb c x) two one ≡ spelled_by (b ∷ c ∷ d ∷ [])
-by-second b x two one p q c d = go (eqb c x) refl
-  where
-    go : (t : Bool) → eqb c x ≡ t → cond t two one ≡ spelled_by (b ∷ c ∷ d ∷ [])
-    go true e = p d ∙ ap (λ (i : ℕ). spelled_by (b ∷ i ∷ d ∷ [])) (sym (eqb-true c x e))
-    go false e = q c d e
-
--- the second byte and the third tell which, where `=` and `==` may follow
-module _ (c d : ℕ) where
-  pub by-equals : cond (eqb c 61 && eqb d 61) (Listed 4 3) (cond (eqb c 61 || eqb c 126) (Refused 2) (Refused 1)) ≡ spelled_by (61 ∷ c ∷ d ∷ [])
-  unfolding spelled_by
-  by-equals = go (eqb c 61) (eqb d 61) (eqb c 126) refl refl refl
-    where
-      go : (t u v : Bool) → eqb c 61 ≡ t → eqb d 61 ≡ u → eqb c 126 ≡ v → cond (t && u) (Listed 4 3) (cond (t || v) (Refused 2) (Refused 1)) ≡ spelled_by (61 ∷ c ∷ d ∷ [])
-      go true true true e k l = rw (e, k, l)
-      go true true false e k l = rw (e, k, l)
-      go true false true e k l = rw (e, k, l)
-      go true false false e k l = rw (e, k, l)
-      go false u true e k l = rw (e, l)
-      go false u false e k l = rw (e, l)
-
-  pub by-not : cond (eqb c 61 && eqb d 61) (Listed 5 3) (cond (eqb c 61) (Refused 2) (Listed 15 1)) ≡ spelled_by (33 ∷ c ∷ d ∷ [])
-  unfolding spelled_by
-  by-not = go (eqb c 61) (eqb d 61) refl refl
-    where
-      go : (t u : Bool) → eqb c 61 ≡ t → eqb d 61 ≡ u → cond (t && u) (Listed 5 3) (cond t (Refused 2) (Listed 15 1)) ≡ spelled_by (33 ∷ c ∷ d ∷ [])
-      go true true e k = rw (e, k)
-      go true false e k = rw (e, k)
-      go false u e k = rw e

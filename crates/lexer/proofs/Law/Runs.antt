@@ -1,14 +1,16 @@
 -- Runs of bytes, and bytes and words at a place, by the first byte there.
-use mathlib.Core.Path.{◌≡◌, refl, sym, ◌∙◌, ap}
-use mathlib.Core.Bool.{Bool, true, false, cond, ◌&&◌, and-true, and-false, false≢true}
+use mathlib.Core.Path.{◌≡◌, refl, sym, ◌∙◌, ap, ap₂}
+use mathlib.Core.Bool.{Bool, true, false, cond, ◌&&◌, and-false, false≢true}
 use mathlib.Core.List.{List, [], ◌∷◌}
 use Prim.Native.Nat.{ℕ, zero, suc, ◌+◌, ◌≤◌, ◌<◌}
 use native.Mathlib.Nat.{add-zero}
 use native.Mathlib.Numerals.{add-one}
 use native.Mathlib.Omega.{arith}
+use borrow.Author.Tests.{eqb-true, eqb-false, ne_eqb}
 use lib.Dec.{eqb}
 use lib.ListN.{length, get_or, take, drop, drop_of_length-le, length-drop}
-use lib.Seq.{drop-cons, drop-drop}
+use lib.Seq.{drop-cons}
+use Rattle.std.specs.List.{prefix_len, starts_with}
 use Rattle.lexer.specs.Bytes.{run, begins, same}
 
 -- one of two, by a test
@@ -25,6 +27,16 @@ run-cons p b bs e = rw (run, e)
 pub run-nil : (p : ℕ → Bool) (b : ℕ) (bs : List ℕ) → p b ≡ false → run p (b ∷ bs) ≡ 0
 unfolding run
 run-nil p b bs e = rw (run, e)
+
+-- `take_while` counts the same
+pub run-prefix : (p : ℕ → Bool) (bs : List ℕ) → prefix_len p bs ≡ run p bs
+unfolding run
+run-prefix p [] = refl
+run-prefix p (b ∷ bs) = go (p b) refl (run-prefix p bs)
+  where
+    go : (t : Bool) → p b ≡ t → prefix_len p bs ≡ run p bs → prefix_len p (b ∷ bs) ≡ run p (b ∷ bs)
+    go true e h = rw (e, run-cons p b bs e) (omega arith)
+    go false e h = rw (e, run-nil p b bs e)
 
 pub run-le : (p : ℕ → Bool) (bs : List ℕ) → run p bs ≤ length bs
 unfolding run
@@ -52,13 +64,6 @@ module _ (p : ℕ → Bool) (text : List ℕ) (at : ℕ) where
 
 -- ---- bytes and words at a place
 
-module _ (text : List ℕ) (at b : ℕ) where
-  pub byte-here : at < length text → eqb (get_or text at 0) b ≡ begins (b ∷ []) (drop at text)
-  byte-here h = rw (drop-cons text at 0 h) (sym (and-true _))
-
-  pub byte_past : length text ≤ at → false ≡ begins (b ∷ []) (drop at text)
-  byte_past h = rw (drop_of_length-le text h)
-
 -- a text that begins with a byte has one
 begins-some : (b : ℕ) (bs : List ℕ) → begins (b ∷ []) bs ≡ true → 0 < length bs
 begins-some b [] e = absurd (false≢true e)
@@ -67,23 +72,18 @@ begins-some b (x ∷ bs) e = omega arith
 pub byte-within : (text : List ℕ) (at b : ℕ) → begins (b ∷ []) (drop at text) ≡ true → at < length text
 byte-within text at b e = omega (arith, begins-some b (drop at text) e, length-drop at text)
 
--- a text begins with a word if with its first byte, and then with the rest
-begins-cons : (x : ℕ) (xs bs : List ℕ) → begins (x ∷ xs) bs ≡ begins (x ∷ []) bs && begins xs (drop 1 bs)
-begins-cons x xs [] = refl
-begins-cons x xs (b ∷ bs) = ap (λ t. t && begins xs bs) (sym (and-true (eqb b x)))
+eqb_comm : (x y : ℕ) → eqb x y ≡ eqb y x
+eqb_comm x y = go (eqb y x) refl
+  where
+    go : (t : Bool) → eqb y x ≡ t → eqb x y ≡ eqb y x
+    go true e = rw (eqb-true y x e)
+    go false e = rw e (ne_eqb x y (λ i. eqb-false y x e (sym i)))
 
-module _ (text word : List ℕ) (at i : ℕ) (h : i < length word) where
-  word-step : begins (drop i word) (drop at text) ≡ begins (get_or word i 0 ∷ []) (drop at text) && begins (drop (suc i) word) (drop 1 (drop at text))
-  word-step = rw (drop-cons word i 0 h) (begins-cons (get_or word i 0) (drop (suc i) word) (drop at text))
-
-  pub word_more : begins (get_or word i 0 ∷ []) (drop at text) ≡ true → begins (drop (i + 1) word) (drop (at + 1) text) ≡ begins (drop i word) (drop at text)
-  word_more e = sym (word-step ∙ rw (e, drop-drop 1 at text, add-one i))
-
-  pub word-stop : begins (get_or word i 0 ∷ []) (drop at text) ≡ false → false ≡ begins (drop i word) (drop at text)
-  word-stop e = sym (word-step ∙ rw e)
-
-pub word_end : (text word : List ℕ) (at i : ℕ) → length word ≤ i → true ≡ begins (drop i word) (drop at text)
-word_end text word at i h = rw (drop_of_length-le word h)
+-- `starts_with` tests the same
+pub starts-begins : (word bs : List ℕ) → starts_with eqb bs word ≡ begins word bs
+starts-begins [] bs = refl
+starts-begins (x ∷ word) [] = refl
+starts-begins (x ∷ word) (b ∷ bs) = ap₂ (λ t u. t && u) (eqb_comm x b) (starts-begins word bs)
 
 -- ---- a part of a text that is a word
 

@@ -29,6 +29,10 @@ pointwise-same [] (y ∷ ys) = refl
 pointwise-same (x ∷ xs) [] = refl
 pointwise-same (x ∷ xs) (y ∷ ys) = ap (λ r. eqb x y && r) (pointwise-same xs ys)
 
+-- the same, by its answer
+pub told : {r t : Bool} (s : List ℕ) {v w : List ℕ} → r ≡ pointwise eqb s v → v ≡ w → r ≡ t → same s w ≡ t
+told s {v} e k h = ap (same s) (sym k) ∙ sym (pointwise-same s v) ∙ sym e ∙ h
+
 -- ---- ends cut to the text
 
 take-cut : (n : ℕ) (l : List ℕ) → take (min n (length l)) l ≡ take n l

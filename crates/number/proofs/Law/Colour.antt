@@ -1,13 +1,13 @@
 -- What `component` and `byte` lean on.
 use Rattle.std.proofs.Common.{◌≡◌, ℕ, zero, suc, ◌+◌, ◌-◌, ◌*◌, ◌/◌, ◌%◌, ◌^◌, ◌<◌, ◌≤◌, min, Bool, true, false, T, leb, pos, negsuc, sym, refl, ap, ◌∙◌, subst, le_trans, lt_of_lt_of_le, mul_assoc, mul_comm, div-lt_iff_lt-mul, add-mul, mul-le-mul_left, mul-lt-mul_of_pos_right, le-div_iff_mul-le, mul-one, mul-div_cancel, mul_left_comm, arith, lit<, lit≤, lt→ltb, pow_pos, pow_mono, pow-add, ltb-false, ltb-true, leb-false, leb-true}
-use lib.Ieee.{Float, nan, inf, fin, binary64, up, down, round, lt, ne, is_nan, mul, to_unsigned, fits}
+use lib.Ieee.{Float, nan, inf, fin, binary64, up, down, round, lt, is_nan, mul, to_unsigned, fits}
 use lib.Ieee.Exact.{HasValue, round_exact}
 use lib.Ieee.Fits.{down_pos}
 use lib.Ieee.Nearest.{div_same}
 use lib.Ieee.Scale.{round_same}
 use Rattle.number.specs.Arithmetic.{nought, unit}
 use Rattle.number.specs.Colour.{component_of, byte_of}
-use Rattle.number.proofs.Law.Compare.{no, no', nan_is, value-lt, fits-says}
+use Rattle.number.proofs.Law.Compare.{no, no', value-lt, fits-says}
 use Rattle.number.proofs.Law.Arithmetic.{or-true}
 
 -- ---- the component
@@ -26,13 +26,13 @@ pub component-above : (x : Float) → lt x nought ≡ false → lt unit x ≡ tr
 unfolding component_of
 component-above x p h = rw (above-is-number x h, p, h)
 
-pub component-nan : (x : Float) → ne x x ≡ true → nought ≡ component_of x
+pub component-nan : (x : Float) → is_nan x ≡ true → nought ≡ component_of x
 unfolding component_of
-component-nan x h = rw (← nan_is x, h)
+component-nan x h = rw h
 
-pub component-within : (x : Float) → lt x nought ≡ false → lt unit x ≡ false → ne x x ≡ false → x ≡ component_of x
+pub component-within : (x : Float) → lt x nought ≡ false → lt unit x ≡ false → is_nan x ≡ false → x ≡ component_of x
 unfolding component_of
-component-within x p q h = rw (← nan_is x, h, p, q)
+component-within x p q h = rw (h, p, q)
 
 -- ---- the byte at both ends
 

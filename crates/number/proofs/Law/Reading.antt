@@ -1,12 +1,14 @@
 -- What the functions that read decimal text lean on: the digits that they count and join are those of the definition.
-use Rattle.std.proofs.Common.{◌≡◌, ℕ, zero, suc, ◌+◌, ◌-◌, ◌*◌, ◌^◌, ◌<◌, ◌≤◌, Bool, true, false, ◌&&◌, T, eqb, leb, List, [], ◌∷◌, ◌++◌, length, get_or, drop, sym, refl, ap, ◌∙◌, subst, lt_of_lt_of_le, add-zero, add-suc, pos_of_ne-zero, suc-add, pow-suc, zero-add, add-one, arith, lit<, length-drop, drop_of_length-le, drop-cons, drop-drop, le-ltb, lt-ltb, eq-eqb, ne_eqb, eqb-true, le-leb, leb-false, leb-true}
+use Rattle.std.proofs.Common.{◌≡◌, ℕ, zero, suc, ◌+◌, ◌-◌, ◌*◌, ◌^◌, ◌<◌, ◌≤◌, Bool, true, false, ◌&&◌, T, eqb, leb, List, [], ◌∷◌, ◌++◌, length, get_or, take, drop, sym, refl, ap, ◌∙◌, subst, lt_of_lt_of_le, add-zero, add-suc, pos_of_ne-zero, suc-add, pow-suc, zero-add, add-one, arith, lit<, length-drop, drop_of_length-le, drop-cons, drop-drop, le-ltb, lt-ltb, eq-eqb, ne_eqb, eqb-true, le-leb, leb-false, leb-true}
 use native.Mathlib.Nat.{pow-le-pow_right}
 use borrow.Author.Tests.{lt-leb, eqb-false}
+use mathlib.Core.Bool.{false≢true}
+use Rattle.std.specs.List.{starts_with}
 use Rattle.number.specs.declared.decimal.Digits.{Digits}
 use Rattle.number.specs.declared.decimal.Decimal.{Decimal}
 use Rattle.number.specs.declared.decimal.Decimal.TheVariants.{Nothing, Number, TooLong}
 use Rattle.number.specs.Decimal.{is_digit, digits, whole_part, fraction, joined, with_point, most_digits, read_at}
-use Rattle.number.specs.Inner.{pushed, digits_from, whole_from, fraction_from, kept}
+use Rattle.number.specs.Inner.{pushed, pushed_all, gathered}
 
 first : (a b : Bool) → (a && b) ≡ true → a ≡ true
 first true b e = refl
@@ -40,87 +42,49 @@ pub digits-none : (b : ℕ) (bs : List ℕ) → is_digit b ≡ false → digits 
 unfolding digits
 digits-none b bs e = rw (digits, e)
 
-pub from_more : (b : ℕ) (bs : List ℕ) (at n : ℕ) → is_digit b ≡ true → digits_from (b ∷ bs) at n ≡ digits_from bs (suc at) (pushed n b)
-unfolding digits_from
-from_more b bs at n e = rw (digits_from, e)
-
-pub from-none : (b : ℕ) (bs : List ℕ) (at n : ℕ) → is_digit b ≡ false → digits_from (b ∷ bs) at n ≡ record { end = at; value = n }
-unfolding digits_from
-from-none b bs at n e = rw (digits_from, e)
-
 -- ---- the same, of a place in a text
 
-module _ (text : List ℕ) (at n : ℕ) where
-  pub from-digit : at < length text → is_digit (get_or text at 0) ≡ true → digits_from (drop (at + 1) text) (at + 1) (pushed n (get_or text at 0)) ≡ digits_from (drop at text) at n
-  from-digit h e = rw (add-one, drop-cons text at 0 h) (sym (from_more _ _ at n e))
+module _ (text : List ℕ) (i : ℕ) where
+  pub digit-here : i < length text → is_digit (get_or text i 0) ≡ true → digits (drop i text) ≡ get_or text i 0 ∷ digits (drop (i + 1) text)
+  digit-here h e = rw (add-one, drop-cons text i 0 h) (digits_more _ _ e)
 
-  pub from-other : at < length text → is_digit (get_or text at 0) ≡ false → record { end = at; value = n } ≡ digits_from (drop at text) at n
-  from-other h e = rw (drop-cons text at 0 h) (sym (from-none _ _ at n e))
+  pub digit-stop : i < length text → is_digit (get_or text i 0) ≡ false → digits (drop i text) ≡ []
+  digit-stop h e = rw (drop-cons text i 0 h) (digits-none _ _ e)
 
-  pub from_past : length text ≤ at → record { end = at; value = n } ≡ digits_from (drop at text) at n
-  unfolding digits_from
-  from_past h = rw (drop_of_length-le text h)
+  pub digit-past : length text ≤ i → digits (drop i text) ≡ []
+  unfolding digits
+  digit-past h = rw (drop_of_length-le text h)
 
-module _ (text : List ℕ) (at : ℕ) where
-  pub whole-nought : at < length text → get_or text at 0 ≡ 48 → record { end = at + 1; value = 0 } ≡ whole_from (drop at text) at
-  unfolding whole_from
-  whole-nought h e = rw (add-one, drop-cons text at 0 h, whole_from, eq-eqb (get_or text at 0) 48 e)
+-- ---- what is gathered: the digits while there are at most 15
 
-  pub whole-digits : at < length text → (get_or text at 0 ≡ 48 → ⊥) → digits_from (drop at text) at 0 ≡ whole_from (drop at text) at
-  unfolding whole_from
-  whole-digits h e = rw (drop-cons text at 0 h, whole_from, ne_eqb (get_or text at 0) 48 e)
-
-  pub whole-past : length text ≤ at → digits_from (drop at text) at 0 ≡ whole_from (drop at text) at
-  unfolding whole_from
-  whole-past h = rw (drop_of_length-le text h)
-
-module _ (text : List ℕ) (at n : ℕ) where
-  fraction-point : (d : Digits) → at < length text → get_or text at 0 ≡ 46 → d ≡ digits_from (drop (at + 1) text) (at + 1) n → kept d at n ≡ fraction_from (drop at text) at n
-  unfolding fraction_from
-  fraction-point d h e k = rw (k, add-one at, drop-cons text at 0 h, fraction_from, eq-eqb (get_or text at 0) 46 e)
-
-  pub fraction-some : (d : Digits) → at < length text → get_or text at 0 ≡ 46 → d ≡ digits_from (drop (at + 1) text) (at + 1) n → at + 1 < d.end → d ≡ fraction_from (drop at text) at n
-  fraction-some d h e k l = sym (rw (lt-ltb (suc at) d.end (omega arith))) ∙ fraction-point d h e k
-
-  pub fraction-none : (d : Digits) → at < length text → get_or text at 0 ≡ 46 → d ≡ digits_from (drop (at + 1) text) (at + 1) n → d.end ≤ at + 1 → record { end = at; value = n } ≡ fraction_from (drop at text) at n
-  fraction-none d h e k l = sym (rw (le-ltb (suc at) d.end (omega arith))) ∙ fraction-point d h e k
-
-  pub fraction-other : at < length text → (get_or text at 0 ≡ 46 → ⊥) → record { end = at; value = n } ≡ fraction_from (drop at text) at n
-  unfolding fraction_from
-  fraction-other h e = rw (drop-cons text at 0 h, fraction_from, ne_eqb (get_or text at 0) 46 e)
-
-  pub fraction-past : length text ≤ at → record { end = at; value = n } ≡ fraction_from (drop at text) at n
-  unfolding fraction_from
-  fraction-past h = rw (drop_of_length-le text h)
-
--- ---- where digits end, and what they are while there are at most 15
-
-from_end : (bs : List ℕ) (at n : ℕ) → (digits_from bs at n).end ≡ at + length (digits bs)
-unfolding digits_from digits
-from_end [] at n = sym (add-zero at)
-from_end (b ∷ bs) at n = go (is_digit b) refl (from_end bs (suc at) (pushed n b))
-  where
-    go : (t : Bool) → is_digit b ≡ t → (digits_from bs (suc at) (pushed n b)).end ≡ suc at + length (digits bs) → (digits_from (b ∷ bs) at n).end ≡ at + length (digits (b ∷ bs))
-    go true e ih = rw (from_more b bs at n e, digits_more b bs e) (ih ∙ suc-add at (length (digits bs)) ∙ sym (add-suc at (length (digits bs))))
-    go false e ih = rw (from-none b bs at n e, digits-none b bs e) (sym (add-zero at))
+pub gathered-stop : (d : Digits) (n : ℕ) (left ds : List ℕ) → left ≡ [] → d.count + length left ≡ length ds → pushed_all d.value left ≡ pushed_all n ds → d ≡ gathered n ds
+unfolding gathered pushed_all
+gathered-stop d n left ds e k v = λ i.
+    record {
+      count = (sym (add-zero d.count) ∙ ap (λ (l : List ℕ). d.count + length l) (sym e) ∙ k) i;
+      value = (ap (pushed_all d.value) (sym e) ∙ v) i;
+    }
 
 -- a digit is at most 9, so one more keeps n below the next power of ten
 grown : (n b j : ℕ) → n < 10 ^ j → is_digit b ≡ true → 10 * n + (b - 48) < 10 ^ suc j
 grown n b j h e = omega (arith, pow-suc 10 j, leb-true b 57 (last (leb 48 b) (leb b 57) e))
 
-from-value : (bs : List ℕ) (at n j : ℕ) → n < 10 ^ j → j + length (digits bs) ≤ most_digits → (digits_from bs at n).value ≡ joined n (digits bs)
-unfolding digits_from digits joined
-from-value [] at n j h k = refl
-from-value (b ∷ bs) at n j h k = go (is_digit b) refl (λ m. from-value bs (suc at) m (suc j))
+from-value : (bs : List ℕ) (n j : ℕ) → n < 10 ^ j → j + length (digits bs) ≤ most_digits → pushed_all n (digits bs) ≡ joined n (digits bs)
+unfolding pushed_all digits joined
+from-value [] n j h k = refl
+from-value (b ∷ bs) n j h k = go (is_digit b) refl (λ m. from-value bs m (suc j))
   where
-    go : (t : Bool) → is_digit b ≡ t → ((m : ℕ) → m < 10 ^ suc j → suc j + length (digits bs) ≤ most_digits → (digits_from bs (suc at) m).value ≡ joined m (digits bs)) →
-        (digits_from (b ∷ bs) at n).value ≡ joined n (digits (b ∷ bs))
+    go : (t : Bool) → is_digit b ≡ t → ((m : ℕ) → m < 10 ^ suc j → suc j + length (digits bs) ≤ most_digits → pushed_all m (digits bs) ≡ joined m (digits bs)) →
+        pushed_all n (digits (b ∷ bs)) ≡ joined n (digits (b ∷ bs))
     go true e ih =
         let room : j + suc (length (digits bs)) ≤ most_digits = rw (digits_more b bs e) at k in
         let small : j ≤ 14 = omega arith in
         let below : n < 10 ^ 14 = lt_of_lt_of_le h (pow-le-pow_right (lit< tt) small) in
-        rw (from_more b bs at n e, digits_more b bs e, ← pushed_more n b below (leb-true 48 b (first (leb 48 b) (leb b 57) e))) (ih _ (grown n b j h e) (omega arith))
-    go false e ih = rw (from-none b bs at n e, digits-none b bs e)
+        ap (pushed_all n) (digits_more b bs e)
+        ∙ ap (λ (m : ℕ). pushed_all m (digits bs)) (sym (pushed_more n b below (leb-true 48 b (first (leb 48 b) (leb b 57) e))))
+        ∙ ih _ (grown n b j h e) (omega arith)
+        ∙ sym (ap (joined n) (digits_more b bs e))
+    go false e ih = rw (digits-none b bs e)
 
 joined-lt : (bs : List ℕ) (n j : ℕ) → n < 10 ^ j → joined n (digits bs) < 10 ^ (j + length (digits bs))
 unfolding digits joined
@@ -135,61 +99,69 @@ joined-lt (b ∷ bs) n j h = go (is_digit b) refl (joined-lt bs (10 * n + (b - 4
 -- ---- the whole part
 
 -- a whole part is a 0, or digits
-whole-cases : (P : List ℕ → Digits → Type 0) (bs : List ℕ) (at : ℕ) → P [] (record { end = at; value = 0 }) → P (48 ∷ []) (record { end = suc at; value = 0 }) →
-    P (digits bs) (digits_from bs at 0) → P (whole_part bs) (whole_from bs at)
-unfolding whole_part whole_from
-whole-cases P [] at p q r = p
-whole-cases P (b ∷ bs) at p q r = go (eqb b 48) refl
+whole-cases : (P : List ℕ → Type 0) (bs : List ℕ) → P [] → P (48 ∷ []) → P (digits bs) → P (whole_part bs)
+unfolding whole_part
+whole-cases P [] p q r = p
+whole-cases P (b ∷ bs) p q r = go (eqb b 48) refl
   where
-    go : (t : Bool) → eqb b 48 ≡ t → P (whole_part (b ∷ bs)) (whole_from (b ∷ bs) at)
-    go true e = rw (whole_part, whole_from, e, eqb-true b 48 e) q
-    go false e = rw (whole_part, whole_from, e) r
+    go : (t : Bool) → eqb b 48 ≡ t → P (whole_part (b ∷ bs))
+    go true e = rw (whole_part, e, eqb-true b 48 e) q
+    go false e = rw (whole_part, e) r
 
-whole-end : (bs : List ℕ) (at : ℕ) → (whole_from bs at).end ≡ at + length (whole_part bs)
-whole-end bs at = whole-cases (λ w d. d.end ≡ at + length w) bs at (sym (add-zero at)) (sym (add-one at)) (from_end bs at 0)
+pub whole-nought : (bs : List ℕ) → starts_with eqb bs (48 ∷ []) ≡ true → record { count = 1; value = 0 } ≡ gathered 0 (whole_part bs)
+unfolding whole_part gathered pushed_all pushed
+whole-nought [] h = absurd (false≢true h)
+whole-nought (b ∷ bs) h =
+    subst (λ (x : ℕ). record { count = 1; value = 0 } ≡ gathered 0 (whole_part (x ∷ bs))) (eqb-true 48 b (first (eqb 48 b) true h)) refl
 
-whole-value : (bs : List ℕ) (at : ℕ) → length (whole_part bs) ≤ most_digits → (whole_from bs at).value ≡ joined 0 (whole_part bs)
-unfolding joined
-whole-value bs at = whole-cases (λ w d. length w ≤ most_digits → d.value ≡ joined 0 w) bs at (λ h. refl) (λ h. refl) (λ h. from-value bs at 0 0 (lit< tt) (omega arith))
+pub whole-digits : (bs : List ℕ) → starts_with eqb bs (48 ∷ []) ≡ false → digits bs ≡ whole_part bs
+unfolding whole_part digits
+whole-digits [] h = refl
+whole-digits (b ∷ bs) h = rw (whole_part, ne_eqb b 48 (λ e. false≢true (sym h ∙ subst (λ (x : ℕ). (eqb 48 x && true) ≡ true) (sym e) refl)))
+
+whole-value : (bs : List ℕ) → length (whole_part bs) ≤ most_digits → pushed_all 0 (whole_part bs) ≡ joined 0 (whole_part bs)
+unfolding pushed_all joined
+whole-value bs = whole-cases (λ w. length w ≤ most_digits → pushed_all 0 w ≡ joined 0 w) bs (λ h. refl) (λ h. refl) (λ h. from-value bs 0 0 (lit< tt) (omega arith))
 
 pub whole-lt : (bs : List ℕ) → joined 0 (whole_part bs) < 10 ^ length (whole_part bs)
 unfolding joined
-whole-lt bs = whole-cases (λ w d. joined 0 w < 10 ^ length w) bs 0 (lit< tt) (lit< tt) (rw (zero-add (length (digits bs))) at (joined-lt bs 0 0 (lit< tt)))
+whole-lt bs = whole-cases (λ w. joined 0 w < 10 ^ length w) bs (lit< tt) (lit< tt) (rw (zero-add (length (digits bs))) at (joined-lt bs 0 0 (lit< tt)))
 
 -- ---- the fraction
 
 -- there is no point, or there are digits after one, maybe none
-fraction-cases : (P : List ℕ → Digits → Type 0) (bs : List ℕ) (at n : ℕ) → P [] (record { end = at; value = n }) →
-    ((cs : List ℕ) → P (digits cs) (kept (digits_from cs (suc at) n) at n)) → P (fraction bs) (fraction_from bs at n)
-unfolding fraction fraction_from
-fraction-cases P [] at n p q = p
-fraction-cases P (b ∷ bs) at n p q = go (eqb b 46) refl
+fraction-cases : (P : List ℕ → Type 0) (bs : List ℕ) → P [] → ((cs : List ℕ) → P (digits cs)) → P (fraction bs)
+unfolding fraction
+fraction-cases P [] p q = p
+fraction-cases P (b ∷ bs) p q = go (eqb b 46) refl
   where
-    go : (t : Bool) → eqb b 46 ≡ t → P (fraction (b ∷ bs)) (fraction_from (b ∷ bs) at n)
-    go true e = rw (fraction, fraction_from, e) (q bs)
-    go false e = rw (fraction, fraction_from, e) p
+    go : (t : Bool) → eqb b 46 ≡ t → P (fraction (b ∷ bs))
+    go true e = rw (fraction, e) (q bs)
+    go false e = rw (fraction, e) p
 
-kept-end : (d : Digits) (at n : ℕ) (ds : List ℕ) → d.end ≡ suc at + length ds → (kept d at n).end ≡ at + with_point (length ds)
-kept-end d at n [] h = rw (le-ltb (suc at) d.end (omega arith)) (sym (add-zero at))
-kept-end d at n (x ∷ ds) h = rw (lt-ltb (suc at) d.end (omega arith)) (omega arith)
+take_at_end : (bs : List ℕ) (n : ℕ) → length bs ≤ n → take n bs ≡ bs
+take_at_end [] zero h = refl
+take_at_end [] (suc n) h = refl
+take_at_end (b ∷ bs) zero h = absurd (omega arith)
+take_at_end (b ∷ bs) (suc n) h = ap (λ (l : List ℕ). b ∷ l) (take_at_end bs n (omega arith))
 
-kept-value : (d : Digits) (at n : ℕ) (ds : List ℕ) → d.end ≡ suc at + length ds → d.value ≡ joined n ds → (kept d at n).value ≡ joined n ds
-unfolding joined
-kept-value d at n [] h e = rw (le-ltb (suc at) d.end (omega arith))
-kept-value d at n (x ∷ ds) h e = rw (lt-ltb (suc at) d.end (omega arith)) e
+pub fraction-point : (bs : List ℕ) (n : ℕ) → get_or bs 0 0 ≡ 46 → length bs - 1 ≤ n → digits (take n (drop 1 bs)) ≡ fraction bs
+unfolding fraction
+fraction-point [] n h k = absurd (omega arith)
+fraction-point (b ∷ bs) n h k = rw (fraction, h) (ap digits (take_at_end bs n (omega arith)))
 
-fraction_end : (bs : List ℕ) (at n : ℕ) → (fraction_from bs at n).end ≡ at + with_point (length (fraction bs))
-fraction_end bs at n = fraction-cases (λ f d. d.end ≡ at + with_point (length f)) bs at n (sym (add-zero at)) (λ cs. kept-end _ at n (digits cs) (from_end cs (suc at) n))
+pub fraction-none : (bs : List ℕ) (n : ℕ) → (get_or bs 0 0 ≡ 46 → ⊥) → record { count = 0; value = n } ≡ gathered n (fraction bs)
+unfolding fraction gathered pushed_all
+fraction-none [] n h = refl
+fraction-none (b ∷ bs) n h = rw (fraction, ne_eqb b 46 h)
 
-fraction-value : (bs : List ℕ) (at n j : ℕ) → n < 10 ^ j → j + length (fraction bs) ≤ most_digits → (fraction_from bs at n).value ≡ joined n (fraction bs)
-unfolding joined
-fraction-value bs at n j h =
-    fraction-cases (λ f d. j + length f ≤ most_digits → d.value ≡ joined n f) bs at n (λ k. refl)
-    (λ cs k. kept-value _ at n (digits cs) (from_end cs (suc at) n) (from-value cs (suc at) n j h k))
+fraction-value : (bs : List ℕ) (n j : ℕ) → n < 10 ^ j → j + length (fraction bs) ≤ most_digits → pushed_all n (fraction bs) ≡ joined n (fraction bs)
+unfolding pushed_all joined
+fraction-value bs n j h = fraction-cases (λ f. j + length f ≤ most_digits → pushed_all n f ≡ joined n f) bs (λ k. refl) (λ cs. from-value cs n j h)
 
 pub fraction-lt : (bs : List ℕ) (n j : ℕ) → n < 10 ^ j → joined n (fraction bs) < 10 ^ (j + length (fraction bs))
 unfolding joined
-fraction-lt bs n j h = fraction-cases (λ f d. joined n f < 10 ^ (j + length f)) bs 0 0 (rw (add-zero j) h) (λ cs. joined-lt cs n j h)
+fraction-lt bs n j h = fraction-cases (λ f. joined n f < 10 ^ (j + length f)) bs (rw (add-zero j) h) (λ cs. joined-lt cs n j h)
 
 -- ---- what `read` returns
 
@@ -204,55 +176,68 @@ whole_at text at = whole_part (drop at text)
 abbrev pub fraction_at : List ℕ → ℕ → List ℕ
 fraction_at text at = fraction (drop (length (whole_at text at)) (drop at text))
 
--- the point is no place
-no-point : (p l : ℕ) → p + with_point l - p - 1 ≡ l
-no-point p zero = omega arith
-no-point p (suc l) = omega arith
+pub with_some : (n : ℕ) → (n ≡ 0 → ⊥) → with_point n ≡ suc n
+with_some zero h = absurd (h refl)
+with_some (suc n) h = refl
 
-pub read-nothing : (text : List ℕ) (at : ℕ) (whole : Digits) → whole ≡ whole_from (drop at text) at → whole.end ≤ at → Nothing ≡ read_at text at
+pub with_none : (n : ℕ) → n ≡ 0 → with_point n ≡ 0
+with_none zero h = refl
+with_none (suc n) h = absurd (omega arith)
+
+pub le-with_point : (n : ℕ) → n ≤ with_point n
+le-with_point zero = omega arith
+le-with_point (suc n) = omega arith
+
+whole_count : (text : List ℕ) (at : ℕ) (whole : Digits) → whole ≡ gathered 0 (whole_at text at) → whole.count ≡ length (whole_at text at)
+unfolding gathered
+whole_count text at whole ew = ap (λ d. d.count) ew
+
+pub read-nothing : (text : List ℕ) (at : ℕ) (whole : Digits) → whole ≡ gathered 0 (whole_at text at) → whole.count ≡ 0 → Nothing ≡ read_at text at
 unfolding read_at
-read-nothing text at whole e h = rw (eq-eqb (length (whole_at text at)) 0 (omega (arith, ap (λ d. d.end) e ∙ whole-end (drop at text) at)))
+read-nothing text at whole ew e = rw (eq-eqb (length (whole_at text at)) 0 (sym (whole_count text at whole ew) ∙ e))
 
-module _ (text : List ℕ) (at : ℕ) (whole all : Digits) (places : ℕ)
-    (ew : whole ≡ whole_from (drop at text) at) (ea : all ≡ fraction_from (drop whole.end text) whole.end whole.value) (ep : places ≡ all.end - whole.end - 1) where
-  point : whole.end ≡ at + length (whole_at text at)
-  point = ap (λ d. d.end) ew ∙ whole-end (drop at text) at
+module _ (text : List ℕ) (at : ℕ) (whole all : Digits)
+    (ew : whole ≡ gathered 0 (whole_at text at)) (ea : all ≡ gathered whole.value (fraction (drop (at + whole.count) text))) where
+  whole-count : whole.count ≡ length (whole_at text at)
+  whole-count = whole_count text at whole ew
 
-  all-is : all ≡ fraction_from (drop (length (whole_at text at)) (drop at text)) whole.end whole.value
-  all-is = ea ∙ ap (λ (bs : List ℕ). fraction_from bs whole.end whole.value) (ap (λ (i : ℕ). drop i text) point ∙ sym (drop-drop (length (whole_at text at)) at text))
+  all-is : all ≡ gathered whole.value (fraction_at text at)
+  all-is =
+      ea ∙ ap (λ (bs : List ℕ). gathered whole.value (fraction bs)) (ap (λ (i : ℕ). drop (at + i) text) whole-count ∙ sym (drop-drop (length (whole_at text at)) at text))
 
-  end_is : all.end ≡ whole.end + with_point (length (fraction_at text at))
-  end_is = ap (λ d. d.end) all-is ∙ fraction_end _ whole.end whole.value
-
-  end-at : all.end ≡ at + length (whole_at text at) + with_point (length (fraction_at text at))
-  end-at = end_is ∙ ap (λ (i : ℕ). i + with_point (length (fraction_at text at))) point
-
-  places-are : places ≡ length (fraction_at text at)
-  places-are = ep ∙ ap (λ (i : ℕ). i - whole.end - 1) end_is ∙ no-point whole.end (length (fraction_at text at))
+  all-count : all.count ≡ length (fraction_at text at)
+  unfolding gathered
+  all-count = ap (λ d. d.count) all-is
 
   value-is : length (whole_at text at) + length (fraction_at text at) ≤ most_digits → all.value ≡ joined 0 (whole_at text at ++ fraction_at text at)
+  unfolding gathered
   value-is h =
-      let first : whole.value ≡ joined 0 (whole_at text at) = ap (λ d. d.value) ew ∙ whole-value (drop at text) at (omega arith) in
+      let first : whole.value ≡ joined 0 (whole_at text at) = ap (λ d. d.value) ew ∙ whole-value (drop at text) (omega arith) in
       ap (λ d. d.value) all-is
-      ∙ ap (λ (n : ℕ). (fraction_from (drop (length (whole_at text at)) (drop at text)) whole.end n).value) first
-      ∙ fraction-value _ whole.end (joined 0 (whole_at text at)) (length (whole_at text at)) (whole-lt (drop at text)) h
+      ∙ ap (λ (n : ℕ). pushed_all n (fraction_at text at)) first
+      ∙ fraction-value _ (joined 0 (whole_at text at)) (length (whole_at text at)) (whole-lt (drop at text)) h
       ∙ sym (joined-append 0 (whole_at text at) (fraction_at text at))
 
-  pub read_number : at < whole.end → whole.end - at + places ≤ most_digits → Number all.end all.value places ≡ read_at text at
-  unfolding read_at
-  read_number h k =
-      let few : length (whole_at text at) + length (fraction_at text at) ≤ most_digits = omega (arith, point, places-are) in
-      let some : length (whole_at text at) ≡ 0 → ⊥ = λ z. omega (arith, point) in
-      rw (ne_eqb (length (whole_at text at)) 0 some, le-leb (length (whole_at text at) + length (fraction_at text at)) most_digits few)
-      (λ i. Number (end-at i) (value-is few i) (places-are i))
+  some : (whole.count ≡ 0 → ⊥) → length (whole_at text at) ≡ 0 → ⊥
+  some h z = h (whole-count ∙ z)
 
-  pub read-long : at < whole.end → most_digits < whole.end - at + places → TooLong all.end ≡ read_at text at
-  unfolding read_at
-  read-long h k =
-      let many : most_digits < length (whole_at text at) + length (fraction_at text at) = omega (arith, point, places-are) in
-      let some : length (whole_at text at) ≡ 0 → ⊥ = λ z. omega (arith, point) in
-      rw (ne_eqb (length (whole_at text at)) 0 some, lt-leb (length (whole_at text at) + length (fraction_at text at)) most_digits many)
-      (ap TooLong end-at)
+  module _ (end : ℕ) (g : end ≡ at + whole.count + with_point all.count) where
+    end-at : end ≡ at + length (whole_at text at) + with_point (length (fraction_at text at))
+    end-at = g ∙ rw (whole-count, all-count)
+
+    pub read_number : (whole.count ≡ 0 → ⊥) → whole.count + all.count ≤ most_digits → Number end all.value all.count ≡ read_at text at
+    unfolding read_at
+    read_number h k =
+        let few : length (whole_at text at) + length (fraction_at text at) ≤ most_digits = rw (whole-count, all-count) at k in
+        rw (ne_eqb (length (whole_at text at)) 0 (some h), le-leb (length (whole_at text at) + length (fraction_at text at)) most_digits few)
+        (λ i. Number (end-at i) (value-is few i) (all-count i))
+
+    pub read-long : (whole.count ≡ 0 → ⊥) → most_digits < whole.count + all.count → TooLong end ≡ read_at text at
+    unfolding read_at
+    read-long h k =
+        let many : most_digits < length (whole_at text at) + length (fraction_at text at) = rw (whole-count, all-count) at k in
+        rw (ne_eqb (length (whole_at text at)) 0 (some h), lt-leb (length (whole_at text at) + length (fraction_at text at)) most_digits many)
+        (ap TooLong end-at)
 
 -- what `read_at` gives, by its tests
 pub read-cases : (P : Decimal → Type 0) (text : List ℕ) (at : ℕ) → (length (whole_at text at) ≡ 0 → P Nothing) →
@@ -310,9 +295,27 @@ EndsWithin text at Nothing = Unit {0}
 EndsWithin text at (Number end n k) = (at < end) × (end ≤ length text)
 EndsWithin text at (TooLong end) = (at < end) × (end ≤ length text)
 
-pub read-within : (text : List ℕ) (at : ℕ) → EndsWithin text at (read_at text at)
-read-within text at =
+pub end_within : (text : List ℕ) (at : ℕ) → 0 < length (whole_at text at) → at + length (whole_at text at) + with_point (length (fraction_at text at)) ≤ length text
+end_within text at h =
     let rest = drop (length (whole_at text at)) (drop at text) in
     let w : length (whole_at text at) ≤ length text - at = rw (length-drop at text) at (whole_le (drop at text)) in
     let f : with_point (length (fraction_at text at)) ≤ length text - at - length (whole_at text at) = rw (length-drop (length (whole_at text at)) (drop at text), length-drop at text) at (fraction-le rest) in
-    read-cases (EndsWithin text at) text at (λ e. tt) (λ h k. (omega arith, omega arith)) (λ h k. (omega arith, omega arith))
+    omega arith
+
+pub read-within : (text : List ℕ) (at : ℕ) → EndsWithin text at (read_at text at)
+read-within text at =
+    read-cases (EndsWithin text at) text at (λ e. tt)
+    (λ h k. (omega arith, end_within text at h))
+    (λ h k. (omega arith, end_within text at h))
+
+pub point-within : (text : List ℕ) (at : ℕ) (whole : Digits) → whole ≡ gathered 0 (whole_at text at) → (whole.count ≡ 0 → ⊥) → at + whole.count ≤ length text
+point-within text at whole ew h =
+    let e = whole_count text at whole ew in
+    let g : at + length (whole_at text at) + with_point (length (fraction_at text at)) ≤ length text = end_within text at (omega arith) in
+    omega arith
+
+pub all-within : (text : List ℕ) (at : ℕ) (whole all : Digits) → (ew : whole ≡ gathered 0 (whole_at text at)) → (ea : all ≡ gathered whole.value (fraction (drop (at + whole.count) text))) →
+    (whole.count ≡ 0 → ⊥) → at + whole.count + with_point all.count ≤ length text
+all-within text at whole all ew ea h =
+    let e = whole_count text at whole ew in
+    rw (e, all-count text at whole all ew ea) (end_within text at (omega arith))

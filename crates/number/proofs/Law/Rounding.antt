@@ -1,21 +1,19 @@
 -- What `around`, `floor` and `round` lean on.
-use Rattle.std.proofs.Common.{◌≡◌, ℕ, zero, suc, ◌+◌, ◌*◌, ◌/◌, ◌%◌, ◌^◌, ◌<◌, ◌≤◌, Bool, true, false, cond, not, ◌&&◌, ◌||◌, T, eqb, ltb, leb, ℤ, pos, negsuc, ◌+ℤ◌, nat_abs, sym, refl, ap, ◌∙◌, subst, lt_of_lt_of_le, add-zero, mod-lt, mul_assoc, mul_comm, div-lt_iff_lt-mul, add-mul, mul-lt-mul_of_pos_right, one-mul, pow-suc, div-add-mod', zero-mul, mul-one, div-one, mul_left_comm, add-one, arith, lit<, lit≤, le→leb, lt→ltb, pow_pos, pow-add, ltb-false, ltb-true, le-ltb, lt-ltb, eqb-true, le-leb}
+use Rattle.std.proofs.Common.{◌≡◌, ℕ, zero, suc, ◌+◌, ◌*◌, ◌/◌, ◌%◌, ◌^◌, ◌<◌, ◌≤◌, Bool, true, false, cond, not, ◌&&◌, T, eqb, ltb, leb, ℤ, pos, negsuc, sym, refl, ap, ◌∙◌, subst, lt_of_lt_of_le, add-zero, mod-lt, mul_assoc, mul_comm, div-lt_iff_lt-mul, add-mul, mul-lt-mul_of_pos_right, one-mul, pow-suc, div-add-mod', zero-mul, mul-one, div-one, mul_left_comm, arith, lit<, lit≤, le→leb, lt→ltb, pow_pos, pow-add, ltb-false, ltb-true, le-leb}
 use native.Mathlib.Nat.{zero-mod, zero-div}
 use borrow.Author.Tests.{lt-leb, eqb-false}
 use lib.Dec.{eqb-suc-zero}
-use lib.Signed.{shr_z}
 use lib.Ieee.{Float, nan, inf, fin, binary64, up, down, round, lt, neg, div, of_int, in_float, to_unsigned, fits}
-use lib.Ieee.Back.{round_whole, whole_unique}
+use lib.Ieee.Back.{round_whole}
 use lib.Ieee.Exact.{HasValue, round_exact}
-use lib.Ieee.Fits.{down_pos, round-fits}
+use lib.Ieee.Fits.{down_pos}
 use lib.Ieee.Scale.{round_same}
-use Rattle.number.specs.declared.rounding.Neighbours.{Neighbours}
 use Rattle.number.specs.Arithmetic.{nought, abs_of}
-use Rattle.number.specs.Rounding.{signed, floor_of, round_of}
-use Rattle.number.specs.Inner.{alone_of, neighbours_of}
+use Rattle.number.specs.Rounding.{floor_of, ceil_of, round_of}
+use Rattle.std.specs.Float.{floor, ceil, round_with}
 use Rattle.number.proofs.Law.Compare.{no, no', below-zero, value-lt, lt-value, fits-says}
 use Rattle.number.proofs.Law.Sign.{sign-round}
-use Rattle.number.proofs.Law.Size.{floor-size, rises, round-size}
+use Rattle.number.proofs.Law.Size.{floor-size, ceil-size, rises, round-size}
 
 -- 2 ^ 52, from which on every number is whole, and 2
 abbrev all_whole : Float
@@ -72,14 +70,6 @@ module _ (m : ℕ) (e : ℤ) (small : lt (fin false m e) all_whole ≡ true) whe
   unfolding of_int
   q-value = round_whole binary64 false q (omega (arith, q-small))
 
-  -- the whole part is below the number where a rest is left
-  rest-left : lt (of_int binary64 (pos q)) (fin false m e) ≡ not (eqb r 0)
-  rest-left = value-lt (of_int binary64 (pos q)) q 1 m e (lit< tt) q-value ∙ go (eqb r 0) refl
-    where
-      go : (b : Bool) → eqb r 0 ≡ b → ltb (q * down e) (m * up e * 1) ≡ not b
-      go true x = le-ltb (q * down e) (m * up e * 1) (omega (arith, parts, eqb-true r 0 x, mul-one (m * up e)))
-      go false x = lt-ltb (q * down e) (m * up e * 1) (omega (arith, parts, eqb-false r 0 x, mul-one (m * up e)))
-
   middle : Float
   middle = div binary64 (of_int binary64 (pos (2 * q + 1))) two
 
@@ -98,12 +88,12 @@ module _ (m : ℕ) (e : ℤ) (small : lt (fin false m e) all_whole ≡ true) whe
       go true x = sym (lt-leb (down e) (2 * r) (omega (arith, parts, twice, ltb-true (m * up e * 2) ((2 * q + 1) * down e) x)))
       go false x = sym (le-leb (down e) (2 * r) (omega (arith, parts, twice, ltb-false (m * up e * 2) ((2 * q + 1) * down e) x)))
 
-  past-half : lt middle (fin false m e) ≡ ltb (down e) (2 * r)
-  past-half = value-lt middle (2 * q + 1) 2 m e (lit< tt) middle-value ∙ go (ltb (down e) (2 * r)) refl
+  to-half : not (lt middle (fin false m e)) ≡ leb (2 * r) (down e)
+  to-half = ap not (value-lt middle (2 * q + 1) 2 m e (lit< tt) middle-value) ∙ go (ltb ((2 * q + 1) * down e) (m * up e * 2)) refl
     where
-      go : (b : Bool) → ltb (down e) (2 * r) ≡ b → ltb ((2 * q + 1) * down e) (m * up e * 2) ≡ b
-      go true x = lt-ltb ((2 * q + 1) * down e) (m * up e * 2) (omega (arith, parts, twice, ltb-true (down e) (2 * r) x))
-      go false x = le-ltb ((2 * q + 1) * down e) (m * up e * 2) (omega (arith, parts, twice, ltb-false (down e) (2 * r) x))
+      go : (b : Bool) → ltb ((2 * q + 1) * down e) (m * up e * 2) ≡ b → not b ≡ leb (2 * r) (down e)
+      go true x = sym (lt-leb (2 * r) (down e) (omega (arith, parts, twice, ltb-true ((2 * q + 1) * down e) (m * up e * 2) x)))
+      go false x = sym (le-leb (2 * r) (down e) (omega (arith, parts, twice, ltb-false ((2 * q + 1) * down e) (m * up e * 2) x)))
 
 -- ---- what `around` returns
 
@@ -129,47 +119,6 @@ pub in-format : (n : ℕ) → n ≤ 2 ^ 53 → T (in_float binary64 (pos n))
 unfolding in_float
 in-format n h = le→leb n (2 ^ 53) h
 
--- the neighbours of a number with a fraction
-abbrev apart : Bool → ℕ → ℤ → Neighbours
-apart s m e =
-    record {
-      toward = round binary64 s (m * up e / down e) 1;
-      away = round binary64 s (suc (m * up e / down e)) 1;
-      negative = s;
-      half = leb (down e) (2 * (m * up e % down e));
-      past = ltb (down e) (2 * (m * up e % down e));
-    }
-
-neighbours_at : (s : Bool) (m : ℕ) (e : ℤ) (b : Bool) → eqb (m * up e % down e) 0 ≡ b → neighbours_of (fin s m e) ≡ cond b (alone_of (fin s m e)) (apart s m e)
-unfolding neighbours_of
-neighbours_at s m e b h = ap (λ (t : Bool). cond t (alone_of (fin s m e)) (apart s m e)) h
-
-not_is : (b c : Bool) → not b ≡ c → b ≡ not c
-not_is true c h = ap not h
-not_is false c h = ap not h
-
-pub around-whole : (x : Float) → lt (abs_of x) all_whole ≡ true → lt (of_int binary64 (pos (to_unsigned 64 (abs_of x)))) (abs_of x) ≡ false → alone_of x ≡ neighbours_of x
-unfolding q r
-around-whole =
-    finite-case (λ x. lt (of_int binary64 (pos (to_unsigned 64 (abs_of x)))) (abs_of x) ≡ false → alone_of x ≡ neighbours_of x)
-    (λ s m e h l. sym (neighbours_at s m e true (not_is (eqb (m * up e % down e) 0) false
-    (sym (rest-left m e h) ∙ (rw (truncated m e h) at l)))))
-
--- the neighbours that the code makes of the whole part k
-abbrev pub made : Float → ℕ → Neighbours
-made x k =
-    record {
-      toward = cond (lt x nought) (neg (of_int binary64 (pos k))) (of_int binary64 (pos k));
-      away = cond (lt x nought) (neg (of_int binary64 (pos (k + 1)))) (of_int binary64 (pos (k + 1)));
-      negative = lt x nought;
-      half = not (lt (abs_of x) (div binary64 (of_int binary64 (pos (2 * k + 1))) two));
-      past = lt (div binary64 (of_int binary64 (pos (2 * k + 1))) two) (abs_of x);
-    }
-
-with-sign : (s b : Bool) (n k : ℕ) → b ≡ s → n ≡ k → cond b (neg (of_int binary64 (pos n))) (of_int binary64 (pos n)) ≡ round binary64 s k 1
-unfolding of_int
-with-sign s b n k h e = rw (h, e) (sign-round s k 1)
-
 -- a number with a fraction is not zero, so that its sign can be seen by a comparison
 sign-seen : (s : Bool) (m : ℕ) (e : ℤ) → eqb (m * up e % down e) 0 ≡ false → lt (fin s m e) nought ≡ s
 sign-seen s zero e h = absurd (eqb-false (0 * up e % down e) 0 h (ap (λ (n : ℕ). n % down e) (zero-mul (up e)) ∙ zero-mod (down e)))
@@ -179,29 +128,6 @@ sign-seen s (suc m) e h = below-zero s (suc m) e ∙ rw (eqb-suc-zero m) (kept s
     kept true = refl
     kept false = refl
 
-pub around-apart : (x : Float) → lt (abs_of x) all_whole ≡ true → lt (of_int binary64 (pos (to_unsigned 64 (abs_of x)))) (abs_of x) ≡ true →
-    made x (to_unsigned 64 (abs_of x)) ≡ neighbours_of x
-unfolding q r middle
-around-apart =
-    finite-case (λ x. lt (of_int binary64 (pos (to_unsigned 64 (abs_of x)))) (abs_of x) ≡ true → made x (to_unsigned 64 (abs_of x)) ≡ neighbours_of x) found
-  where
-    found : (s : Bool) (m : ℕ) (e : ℤ) → lt (fin false m e) all_whole ≡ true → lt (of_int binary64 (pos (to_unsigned 64 (fin false m e)))) (fin false m e) ≡ true →
-        made (fin s m e) (to_unsigned 64 (fin false m e)) ≡ neighbours_of (fin s m e)
-    found s m e h l =
-        let k = m * up e / down e in
-        let left : eqb (m * up e % down e) 0 ≡ false = not_is (eqb (m * up e % down e) 0) true (sym (rest-left m e h) ∙ (rw (truncated m e h) at l)) in
-        let seen = sign-seen s m e left in
-        ap (made (fin s m e)) (truncated m e h)
-        ∙ (λ i.
-        record {
-          toward = with-sign s (lt (fin s m e) nought) k k seen refl i;
-          away = with-sign s (lt (fin s m e) nought) (k + 1) (suc k) seen (add-one k) i;
-          negative = seen i;
-          half = from-half m e h i;
-          past = past-half m e h i;
-        })
-        ∙ sym (neighbours_at s m e false left)
-
 -- from 2 ^ 52 on there is no fraction
 no_fraction : (s : Bool) (m : ℕ) (e : ℤ) → fits binary64 (fin s m e) ≡ true → lt (fin false m e) all_whole ≡ false → m * up e % down e ≡ 0
 unfolding lt
@@ -209,12 +135,6 @@ no_fraction s m (pos k) f h = omega arith
 no_fraction s zero (negsuc k) f h = absurd (omega (arith, ltb-false (0 * 1 * 1) (1 * 2 ^ 52 * 2 ^ suc k) h, pow_pos (suc k)))
 no_fraction s (suc m) (negsuc k) f h =
     absurd (omega (arith, ltb-false (suc m * 1 * 1) (1 * 2 ^ 52 * 2 ^ suc k) h, pow-suc 2 k, pow_pos k, (fits-says s m (negsuc k) (subst T (sym f) tt)).digits))
-
-pub around-large : (x : Float) → fits binary64 x ≡ true → lt (abs_of x) all_whole ≡ false → alone_of x ≡ neighbours_of x
-unfolding neighbours_of
-around-large nan f h = refl
-around-large (inf s) f h = refl
-around-large (fin s m e) f h = rw (no_fraction s m e f h)
 
 -- ---- what `floor` and `round` pick
 
@@ -238,55 +158,121 @@ size_exact s (suc m) (pos k) f z =
     (subst (λ (n : ℕ). n < 2 ^ 2098) grown (lt_of_lt_of_le (mul-lt-mul_of_pos_right b (pow_pos 1074)) (lit≤ tt)))
     (grown ∙ sym (mul-one (suc m * 2 ^ (k + 1074)))))
 
-pub stays : (s : Bool) (m : ℕ) (e : ℤ) → fits binary64 (fin s m e) ≡ true → m * up e % down e ≡ 0 → fin s m e ≡ round binary64 s (m * up e / down e) 1
-stays s m e f z =
-    let t : T (fits binary64 (fin s m e)) = subst T (sym f) tt in
-    whole_unique binary64 (fin s m e) (round binary64 s (m * up e / down e) 1) s (m * up e / down e) t (round-fits binary64 s (m * up e / down e) 1)
-    (refl, mul-one (m * up e) ∙ sym (div-add-mod' (m * up e) (down e)) ∙ ap (λ (n : ℕ). m * up e / down e * down e + n) z ∙ add-zero (m * up e / down e * down e))
-    (size_exact s m e t z)
+-- ---- the whole numbers below, above and nearest
 
-module _ (s : Bool) (m : ℕ) (e : ℤ) (f : fits binary64 (fin s m e) ≡ true) where
-  rest_below : m * up e % down e < down e
-  rest_below = mod-lt (m * up e) (down_pos e)
+neg-twice : (x : Float) → neg (neg x) ≡ x
+unfolding neg
+neg-twice nan = refl
+neg-twice (inf true) = refl
+neg-twice (inf false) = refl
+neg-twice (fin true m e) = refl
+neg-twice (fin false m e) = refl
 
-  -- one of the two neighbours, by a test that fails for a whole number
-  picked : (size : ℕ) (c : Neighbours → Bool) (t : Bool) → c (alone_of (fin s m e)) ≡ false → c (apart s m e) ≡ t →
-      size ≡ cond (eqb (m * up e % down e) 0) (m * up e / down e) (cond t (suc (m * up e / down e)) (m * up e / down e)) →
-      cond (c (neighbours_of (fin s m e))) (neighbours_of (fin s m e)).away (neighbours_of (fin s m e)).toward ≡ round binary64 s size 1
-  picked size c t a b g = go (eqb (m * up e % down e) 0) refl
+neg-round : (s : Bool) (n : ℕ) → neg (round binary64 (not s) n 1) ≡ round binary64 s n 1
+neg-round true n = sign-round true n 1
+neg-round false n = ap neg (sym (sign-round true n 1)) ∙ neg-twice (round binary64 false n 1)
+
+module _ (s : Bool) (m : ℕ) (e : ℤ) where
+  a : ℕ
+  a = m * up e
+
+  d : ℕ
+  d = down e
+
+  k : ℕ
+  k = m * up e / down e
+
+  t : ℕ
+  t = m * up e % down e
+
+  t-below : t < d
+  unfolding t d
+  t-below = mod-lt (m * up e) (down_pos e)
+
+  whole-parts : k * d + t ≡ a
+  unfolding a d k t
+  whole-parts = div-add-mod' (m * up e) (down e)
+
+  floor-is : floor_of (fin s m e) ≡ round binary64 s (cond (eqb t 0) k (cond s (suc k) k)) 1
+  unfolding floor_of a d k t
+  floor-is = ap (λ (n : ℕ). round binary64 s n 1) (floor-size s a d k t t-below whole-parts)
+
+  ceil-is : ceil_of (fin s m e) ≡ round binary64 s (cond (eqb t 0) k (cond (not s) (suc k) k)) 1
+  unfolding ceil_of floor_of neg a d k t
+  ceil-is = ap neg (ap (λ (n : ℕ). round binary64 (not s) n 1) (floor-size (not s) a d k t t-below whole-parts)) ∙ neg-round s _
+
+  round-picks : round_of (fin s m e) ≡ round binary64 s (cond (eqb t 0) k (cond (rises s d t) (suc k) k)) 1
+  unfolding round_of a d k t
+  round-picks = ap (λ (n : ℕ). round binary64 s n 1) (round-size s a d k t t-below whole-parts)
+
+  -- the one above or the one below, by a test that need not be right where both are the number itself
+  nearest : (b : Bool) → (eqb t 0 ≡ false → b ≡ cond s (leb (2 * t) d) (leb d (2 * t))) → cond b (ceil_of (fin s m e)) (floor_of (fin s m e)) ≡ round_of (fin s m e)
+  nearest b h = rw (ceil-is, floor-is, round-picks) (go (eqb t 0) refl)
     where
-      moved : (t : Bool) (n : ℕ) → cond t (round binary64 s (suc n) 1) (round binary64 s n 1) ≡ round binary64 s (cond t (suc n) n) 1
-      moved true n = refl
-      moved false n = refl
+      moved : (b : Bool) (n i : ℕ) → cond b (round binary64 s n 1) (round binary64 s i 1) ≡ round binary64 s (cond b n i) 1
+      moved true n i = refl
+      moved false n i = refl
 
-      go : (z : Bool) → eqb (m * up e % down e) 0 ≡ z → cond (c (neighbours_of (fin s m e))) (neighbours_of (fin s m e)).away (neighbours_of (fin s m e)).toward ≡ round binary64 s size 1
-      go true z = rw (neighbours_at s m e true z, a, g, z) (stays s m e f (eqb-true (m * up e % down e) 0 z))
-      go false z = rw (neighbours_at s m e false z, b, g, z) (moved t (m * up e / down e))
+      same : (b : Bool) (n : ℕ) → cond b n n ≡ n
+      same true n = refl
+      same false n = refl
 
-pub floor-picks : (x : Float) → fits binary64 x ≡ true → cond (neighbours_of x).negative (neighbours_of x).away (neighbours_of x).toward ≡ floor_of x
-unfolding neighbours_of floor_of
-floor-picks nan f = refl
-floor-picks (inf s) f = refl
-floor-picks (fin s m e) f =
-    picked s m e f (nat_abs (shr_z (signed s (m * up e)) (down e))) (λ n. n.negative) s refl refl
-    (floor-size s (m * up e) (down e) (m * up e / down e) (m * up e % down e) (rest_below s m e f) (div-add-mod' (m * up e) (down e)))
+      turned : (c : Bool) → ltb d (2 * t) ≡ c → cond (leb (2 * t) d) k (suc k) ≡ cond (ltb d (2 * t)) (suc k) k
+      turned true i = rw (i, lt-leb (2 * t) d (ltb-true d (2 * t) i))
+      turned false i = rw (i, le-leb (2 * t) d (ltb-false d (2 * t) i))
 
--- whether the code goes away from zero
-abbrev pub leaves : Neighbours → Bool
-leaves n = (n.negative && n.past) || (not n.negative && n.half)
+      by_sign : (s : Bool) → cond (cond s (leb (2 * t) d) (leb d (2 * t))) (cond (not s) (suc k) k) (cond s (suc k) k) ≡ cond (rises s d t) (suc k) k
+      by_sign true = turned (ltb d (2 * t)) refl
+      by_sign false = refl
 
-pub round-picks : (x : Float) → fits binary64 x ≡ true → cond (leaves (neighbours_of x)) (neighbours_of x).away (neighbours_of x).toward ≡ round_of x
-unfolding neighbours_of round_of
-round-picks nan f = refl
-round-picks (inf s) f = refl
-round-picks (fin s m e) f =
-    let a = m * up e in
-    let r = a % down e in
-    picked s m e f (nat_abs (shr_z (signed s (2 * a) +ℤ pos (down e)) (2 * down e))) leaves (rises s (down e) r) refl
-    (by_sign s (ltb (down e) (2 * r)) (leb (down e) (2 * r)))
-    (round-size s a (down e) (a / down e) r (rest_below s m e f) (div-add-mod' a (down e)))
+      go : (z : Bool) → eqb t 0 ≡ z →
+          cond b (round binary64 s (cond (eqb t 0) k (cond (not s) (suc k) k)) 1) (round binary64 s (cond (eqb t 0) k (cond s (suc k) k)) 1)
+          ≡ round binary64 s (cond (eqb t 0) k (cond (rises s d t) (suc k) k)) 1
+      go true z = moved b _ _ ∙ rw z (ap (λ (n : ℕ). round binary64 s n 1) (same b k))
+      go false z = moved b _ _ ∙ rw z (ap (λ (n : ℕ). round binary64 s n 1) (rw (h z) (by_sign s)))
+
+pub floor-library : (x : Float) → floor binary64 x ≡ floor_of x
+unfolding round_with floor_of t k
+floor-library nan = refl
+floor-library (inf s) = refl
+floor-library (fin false m e) = refl
+floor-library (fin true m e) =
+    ap (λ (n : ℕ). round binary64 true n 1)
+    (ceil-size (m * up e) (down e) (m * up e / down e) (m * up e % down e) (mod-lt (m * up e) (down_pos e)) (div-add-mod' (m * up e) (down e)))
+    ∙ sym (floor-is true m e)
+
+pub ceil-library : (x : Float) → ceil binary64 x ≡ ceil_of x
+unfolding round_with ceil_of floor_of neg t k
+ceil-library nan = refl
+ceil-library (inf true) = refl
+ceil-library (inf false) = refl
+ceil-library (fin false m e) =
+    ap (λ (n : ℕ). round binary64 false n 1)
+    (ceil-size (m * up e) (down e) (m * up e / down e) (m * up e % down e) (mod-lt (m * up e) (down_pos e)) (div-add-mod' (m * up e) (down e)))
+    ∙ sym (ceil-is false m e)
+ceil-library (fin true m e) = sym (neg-round true (m * up e / down e))
+
+-- the number halfway between the whole numbers around a magnitude
+abbrev pub halfway : ℕ → Float
+halfway n = div binary64 (of_int binary64 (pos (2 * n + 1))) two
+
+pub rises-small : (x : Float) → lt (abs_of x) all_whole ≡ true →
+    cond (cond (lt x nought) (not (lt (halfway (to_unsigned 64 (abs_of x))) (abs_of x))) (not (lt (abs_of x) (halfway (to_unsigned 64 (abs_of x)))))) (ceil_of x) (floor_of x) ≡ round_of x
+unfolding q r middle t d
+rises-small =
+    finite-case
+    (λ x. cond (cond (lt x nought) (not (lt (halfway (to_unsigned 64 (abs_of x))) (abs_of x))) (not (lt (abs_of x) (halfway (to_unsigned 64 (abs_of x)))))) (ceil_of x) (floor_of x) ≡ round_of x)
+    (λ s m e h. nearest s m e _ (λ z.
+    rw (truncated m e h, sign-seen s m e z) (by_sign s m e h)))
   where
-    by_sign : (s p h : Bool) → ((s && p) || (not s && h)) ≡ cond s p h
-    by_sign true true h = refl
-    by_sign true false h = refl
-    by_sign false p h = refl
+    by_sign : (s : Bool) (m : ℕ) (e : ℤ) → lt (fin false m e) all_whole ≡ true →
+        cond s (not (lt (halfway (m * up e / down e)) (fin false m e))) (not (lt (fin false m e) (halfway (m * up e / down e))))
+        ≡ cond s (leb (2 * (m * up e % down e)) (down e)) (leb (down e) (2 * (m * up e % down e)))
+    by_sign true m e h = to-half m e h
+    by_sign false m e h = from-half m e h
+
+pub rises-large : (x : Float) → fits binary64 x ≡ true → lt (abs_of x) all_whole ≡ false → floor_of x ≡ round_of x
+unfolding floor_of round_of t
+rises-large nan f h = refl
+rises-large (inf s) f h = refl
+rises-large (fin s m e) f h = nearest s m e false (λ z. absurd (eqb-false (m * up e % down e) 0 z (no_fraction s m e f h)))

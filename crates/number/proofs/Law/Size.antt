@@ -29,6 +29,11 @@ floor-size false a d q r h e = quotient a d q r h (sym e) ∙ same (eqb r 0)
     same true = refl
     same false = refl
 
+-- a / d rounded up
+pub ceil-size : (a d q r : ℕ) → r < d → q * d + r ≡ a → (a + d - 1) / d ≡ cond (eqb r 0) q (suc q)
+ceil-size a d q zero h e = quotient (a + d - 1) d q (d - 1) (omega arith) (omega arith)
+ceil-size a d q (suc r) h e = rw (eqb-suc-zero r) (quotient (a + d - 1) d (suc q) r (omega arith) (omega (arith, suc-mul q d)))
+
 -- ---- a number plus a half
 
 twice : (q d : ℕ) → q * (2 * d) ≡ 2 * (q * d)

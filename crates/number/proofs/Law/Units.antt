@@ -1,12 +1,12 @@
 -- Numbers in units of the smallest: what a pattern's fields say, and the remainder of two such numbers.
-use Rattle.std.proofs.Common.{◌≡◌, ℕ, zero, suc, ◌+◌, ◌-◌, ◌*◌, ◌/◌, ◌%◌, ◌^◌, ◌<◌, ◌≤◌, Bool, true, false, cond, not, T, leb, eqb, pos, sym, refl, ap, ◌∙◌, subst, ap₂, mod-lt, mul_assoc, mul_comm, mul-one, one-mul, zero-mul, mul-pos, add-one, pow-suc, pow_pos, pow_mono, pow-add, shl_lt, sub-add_cancel, lt_of_lt_of_le, arith, lit<, mul_right_comm, mul-le-mul_right}
+use Rattle.std.proofs.Common.{◌≡◌, ℕ, zero, suc, ◌+◌, ◌-◌, ◌*◌, ◌/◌, ◌%◌, ◌^◌, ◌<◌, ◌≤◌, Bool, true, false, cond, T, leb, eqb, pos, sym, refl, ap, ◌∙◌, subst, ap₂, mod-lt, mul_assoc, mul_comm, mul-one, one-mul, zero-mul, mul-pos, add-one, pow-suc, pow_pos, pow_mono, pow-add, shl_lt, sub-add_cancel, lt_of_lt_of_le, arith, lit<, mul_right_comm, mul-le-mul_right}
 use native.Mathlib.Nat.{mod-eq_of_lt, mul_left_comm, lt_irrefl, zero-lt-suc}
 use borrow.Author.Tests.{lt-leb, ne_eqb, eqb-true}
 use lib.Dec.{eqb-suc-zero}
 use mathlib.Core.Bool.{true≢false}
 use lib.Arith.{digits_div, digits_mod}
 use lib.Pow.{pow-lt}
-use lib.Ieee.{Float, nan, inf, fin, binary64, up, down, unlike, neg, odd, round, mul, rem, of_int, of_fields, of_bits, to_bits, fits, is_nan}
+use lib.Ieee.{Float, nan, inf, fin, binary64, up, down, unlike, odd, round, mul, rem, of_int, of_fields, of_bits, to_bits, fits, is_nan}
 use lib.Ieee.Bits.{of_bits-to_bits}
 use lib.Ieee.Back.{round_whole}
 use lib.Ieee.Exact.{HasValue, odd_sign}
@@ -108,23 +108,16 @@ crossed : (a b k d p e g : ℕ) → a * 1 ≡ d * e → b * k ≡ 1 * p * g → 
 crossed a b k d p e g x y =
     mul_assoc a b k ∙ ap₂ (λ u v. u * v) (sym (mul-one a) ∙ x) (y ∙ ap (λ z. z * g) (one-mul p)) ∙ swap d e p g
 
-pub product-units : (x u : Float) (s : Bool) (d p : ℕ) → HasValue x false d 1 → HasUnits u false 1 p →
-    mul binary64 x (cond s (neg u) u) ≡ round binary64 s (d * 2 ^ p) (2 ^ 1074)
-unfolding mul neg
-product-units nan u s d p v w = absurd v
-product-units (inf t) u s d p v w = absurd v
-product-units (fin a m e) nan s d p v w = absurd w
-product-units (fin a m e) (inf t) s d p v w = absurd w
-product-units (fin a m e) (fin b n g) s d p v w = go s
-  where
-    same : (s : Bool) → round binary64 s (m * up e * (n * up g)) (down e * down g) ≡ round binary64 s (d * 2 ^ p) (2 ^ 1074)
-    same s =
-        round_same binary64 s (m * up e * (n * up g)) (down e * down g) (d * 2 ^ p) (2 ^ 1074)
-        (mul-pos (down_pos e) (down_pos g)) (pow_pos 1074) (crossed (m * up e) (n * up g) (2 ^ 1074) d (2 ^ p) (down e) (down g) v.1 w.1)
-
-    go : (s : Bool) → mul binary64 (fin a m e) (cond s (fin (not b) n g) (fin b n g)) ≡ round binary64 s (d * 2 ^ p) (2 ^ 1074)
-    go true = ap₂ (λ x y. round binary64 (unlike x (not y)) (m * up e * (n * up g)) (down e * down g)) v.0 w.0 ∙ same true
-    go false = ap₂ (λ x y. round binary64 (unlike x y) (m * up e * (n * up g)) (down e * down g)) v.0 w.0 ∙ same false
+pub product-units : (x u : Float) (d p : ℕ) → HasValue x false d 1 → HasUnits u false 1 p → mul binary64 x u ≡ round binary64 false (d * 2 ^ p) (2 ^ 1074)
+unfolding mul
+product-units nan u d p v w = absurd v
+product-units (inf t) u d p v w = absurd v
+product-units (fin a m e) nan d p v w = absurd w
+product-units (fin a m e) (inf t) d p v w = absurd w
+product-units (fin a m e) (fin b n g) d p v w =
+    ap₂ (λ x y. round binary64 (unlike x y) (m * up e * (n * up g)) (down e * down g)) v.0 w.0
+    ∙ round_same binary64 false (m * up e * (n * up g)) (down e * down g) (d * 2 ^ p) (2 ^ 1074)
+    (mul-pos (down_pos e) (down_pos g)) (pow_pos 1074) (crossed (m * up e) (n * up g) (2 ^ 1074) d (2 ^ p) (down e) (down g) v.1 w.1)
 
 -- ---- the remainder
 

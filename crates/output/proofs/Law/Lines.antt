@@ -1,16 +1,15 @@
 -- Lines of the output.
-use mathlib.Core.Path.{◌≡◌, refl, ◌∙◌, ap}
+use mathlib.Core.Path.{◌≡◌, refl, sym, ◌∙◌, ap}
 use mathlib.Core.Bool.{Bool, true, false, cond}
 use mathlib.Core.List.{List, [], ◌∷◌, ◌++◌}
-use Prim.Native.Nat.{ℕ, zero, suc, ◌+◌, ◌-◌, ◌/◌, ◌%◌, ◌≤◌, ◌<◌}
-use native.Mathlib.Numerals.{sub-one}
+use Prim.Native.Nat.{ℕ, suc, ◌+◌, ◌-◌, ◌/◌, ◌%◌, ◌^◌, ◌≤◌, ◌<◌}
 use native.Mathlib.Omega.{arith}
 use borrow.Author.Tests.{leb-true, lt-ltb, le-ltb, le-leb, lt-leb}
 use lib.Dec.{leb}
 use lib.ListN.{length, drop, length-append}
-use Rattle.output.specs.Page.{written}
-use Rattle.output.specs.Line.{front, decimal_digit, digits_of, hex_digit}
-use Rattle.output.proofs.Law.Pages.{at_front, written_none}
+use Rattle.std.specs.Fmt.{decimal as std_decimal}
+use Rattle.std.proofs.lemmas.Fmt.{AppendsLastDigit, decimal_from_appends, length-decimal-le}
+use Rattle.output.specs.Line.{front, decimal_digit, digits_of, decimal, hex_digit}
 
 -- ---- digits
 
@@ -22,17 +21,15 @@ pub digit-more : (n most : ℕ) → 10 ≤ n → digits_of (suc most) n ≡ digi
 unfolding digits_of
 digit-more n most h = rw (le-ltb n 10 h, digits_of)
 
-pub digits-none : (n most : ℕ) (p : List ℕ × ℕ) → most ≡ 0 → p ≡ written p (digits_of most n)
-unfolding digits_of
-digits-none n most p e = rw e (written_none p)
+appends : AppendsLastDigit digits_of
+appends = record {
+  one = λ k n h. last-digit n k h ∙ ap (λ (d : ℕ). d ∷ []) (omega arith);
+  more = λ k n h. digit-more n k h;
+}
 
-pub digits-one : (n most : ℕ) → (most ≡ 0 → ⊥) → n < 10 → digits_of most n ≡ decimal_digit n ∷ []
-digits-one n zero s h = absurd (s refl)
-digits-one n (suc most) s h = last-digit n most h
-
-pub digits_more : (n most : ℕ) → (most ≡ 0 → ⊥) → 10 ≤ n → digits_of most n ≡ digits_of (most - 1) (n / 10) ++ (decimal_digit n ∷ [])
-digits_more n zero s h = absurd (s refl)
-digits_more n (suc most) s h = rw (sub-one (suc most)) (digit-more n most h)
+-- the library's decimal text
+pub decimal-is : (n : ℕ) → n < 2 ^ 64 → std_decimal n ≡ decimal n
+decimal-is n h = sym (decimal_from_appends digits_of appends 20 n h (length-decimal-le 20 n (omega arith) (omega arith) h))
 
 pub hex-small : (n : ℕ) → n % 16 < 10 → 48 + n % 16 ≡ hex_digit n
 unfolding hex_digit
@@ -45,9 +42,9 @@ hex-large n h = rw (le-ltb (n % 16) 10 h) (omega arith)
 -- ---- the front of the output
 
 module _ (out line : List ℕ) where
-  pub front_fits : length line ≤ length out → written (out, 0) line ≡ front out line
+  pub front_fits : length line ≤ length out → (line ++ drop (length line) out, length line) ≡ front out line
   unfolding front
-  front_fits h = at_front out line h ∙ rw (le-leb (length line) (length out) h)
+  front_fits h = rw (le-leb (length line) (length out) h)
 
   pub front-left-out : length out < length line → (out, 0) ≡ front out line
   unfolding front

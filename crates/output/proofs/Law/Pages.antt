@@ -1,27 +1,23 @@
 -- Bytes written one behind the other.
 use mathlib.Core.Path.{◌≡◌, refl, sym, ◌∙◌, ap}
 use mathlib.Core.Bool.{Bool, true, false, cond}
-use mathlib.Core.List.{List, [], ◌∷◌, ◌++◌}
-use Prim.Native.Nat.{ℕ, suc, ◌+◌, ◌≤◌, ◌<◌}
+use mathlib.Core.List.{List, [], ◌∷◌, ◌++◌, append_assoc}
+use Prim.Native.Nat.{ℕ, suc, ◌+◌, ◌-◌, ◌≤◌, ◌<◌, min}
 use native.Mathlib.Nat.{zero-add}
 use native.Mathlib.Numerals.{add-one, unary_clauses}
 use native.Mathlib.Omega.{arith}
-use borrow.Author.Tests.{ltb-true, lt-ltb, le-ltb}
-use lib.Dec.{ltb}
-use lib.ListN.{length, set, get_or, take, drop, drop_of_length-le, length-take, length-set, length-append}
-use lib.Seq.{drop-cons, get_or-take, slice, sets, sets-eq, take-length, take-append_seam}
-use Rattle.output.specs.Page.{byte_on, written}
+use borrow.Author.Tests.{leb-true, leb-false, ltb-true, lt-ltb, le-ltb}
+use lib.Dec.{leb, ltb}
+use lib.ListN.{length, set, take, drop, drop_of_length-le, length-take, length-set, length-append}
+use lib.Seq.{sets, length-sets, sets-eq, take-append_seam}
+use borrow.Rule.Slice.PartMut.{put_mid}
+use Rattle.std.proofs.lemmas.List.{take-append-drop, drop-drop}
+use Rattle.output.specs.Page.{byte_on, written, Writes}
+use Rattle.output.specs.declared.page.Page.{Page}
 
--- ---- one byte
-
-module _ (page : List ℕ) (at b : ℕ) where
-  pub byte_fits : at < length page → (set page at b, at + 1) ≡ written (page, at) (b ∷ [])
-  unfolding written
-  byte_fits h = rw (lt-ltb at (length page) h)
-
-  pub byte-left-out : length page ≤ at → (page, at) ≡ written (page, at) (b ∷ [])
-  unfolding written
-  byte-left-out h = rw (le-ltb at (length page) h)
+pub byte_fits : (page : List ℕ) (at b : ℕ) → at < length page → (set page at b, at + 1) ≡ written (page, at) (b ∷ [])
+unfolding written
+byte_fits page at b h = rw (lt-ltb at (length page) h)
 
 -- on a full page nothing changes
 pub full : (page : List ℕ) (at : ℕ) (bs : List ℕ) → length page ≤ at → (page, at) ≡ written (page, at) bs
@@ -33,10 +29,6 @@ pub written_none : (p : List ℕ × ℕ) → p ≡ written p []
 unfolding written
 written_none p = refl
 
-pub written_one : (p : List ℕ × ℕ) (b : ℕ) (bs : List ℕ) → written (written p (b ∷ [])) bs ≡ written p (b ∷ bs)
-unfolding written
-written_one p b bs = refl
-
 -- ---- one piece behind another
 
 pub written-append : (p : List ℕ × ℕ) (xs ys : List ℕ) → written (written p xs) ys ≡ written p (xs ++ ys)
@@ -47,30 +39,15 @@ written-append p (x ∷ xs) ys = written-append (byte_on p x) xs ys
 pub and_then : {q r : List ℕ × ℕ} (p : List ℕ × ℕ) (xs ys : List ℕ) → q ≡ written p xs → r ≡ written q ys → r ≡ written p (xs ++ ys)
 and_then p xs ys e f = f ∙ ap (λ (s : List ℕ × ℕ). written s ys) e ∙ written-append p xs ys
 
--- ---- what a loop has left to write
+-- the same of pages in their rooms
+pub nothing : (p : Page) → Writes p [] p
+nothing p = record { page = written_none (p.room.now, p.end); room = refl }
 
-pub done : {z : List ℕ × ℕ} (p : List ℕ × ℕ) (bs : List ℕ) → bs ≡ [] → written p bs ≡ z → p ≡ z
-done p bs e f = written_none p ∙ ap (written p) (sym e) ∙ f
+pub full_page : (p : Page) {bs : List ℕ} → length p.room.now ≤ p.end → Writes p bs p
+full_page p {bs} h = record { page = full p.room.now p.end bs h; room = refl }
 
-pub one_more : {q z : List ℕ × ℕ} (p : List ℕ × ℕ) (b : ℕ) (bs cs : List ℕ) → q ≡ written p (b ∷ []) → bs ≡ b ∷ cs → written p bs ≡ z → written q cs ≡ z
-one_more p b bs cs e f g = ap (λ (s : List ℕ × ℕ). written s cs) e ∙ written_one p b cs ∙ ap (written p) (sym f) ∙ g
-
--- ---- a part of a text, by the byte at a place
-
-module _ (text : List ℕ) (i to : ℕ) where
-  pub part-more : i < length text → i < to → slice i to text ≡ get_or text i 0 ∷ slice (i + 1) to text
-  part-more h k =
-      let inside : i < length (take to text) = rw (length-take to text) (omega arith) in
-      rw (add-one i, drop-cons (take to text) i 0 inside, get_or-take to text i 0 k)
-
-  pub part-stop : to ≤ i → slice i to text ≡ []
-  part-stop h = drop_of_length-le (take to text) {i = i} (rw (length-take to text) (omega arith))
-
-  pub part-past : length text ≤ i → slice i to text ≡ []
-  part-past h = drop_of_length-le (take to text) {i = i} (rw (length-take to text) (omega arith))
-
-pub whole : (p : List ℕ × ℕ) (text : List ℕ) → written p (slice 0 (length text) text) ≡ written p text
-whole p text = ap (written p) (take-length text)
+pub then : {p q r : Page} (xs ys : List ℕ) → Writes p xs q → Writes q ys r → Writes p (xs ++ ys) r
+then xs ys e f = record { page = and_then _ xs ys e.page f.page; room = f.room ∙ e.room }
 
 -- ---- bytes that fit
 
@@ -80,6 +57,32 @@ by-sets [] page at h = simp unary_clauses
 by-sets (b ∷ bs) page at h =
     let more : suc at + length bs ≤ length (set page at b) = rw (length-set page at b) (omega arith) in
     rw (lt-ltb at (length page) (omega arith), add-one at) (by-sets bs (set page at b) (suc at) more ∙ ap (λ (n : ℕ). (sets page at (b ∷ bs), n)) (omega arith))
+
+-- as many bytes as there is room for
+put : (page xs : List ℕ) (at : ℕ) → at + length xs ≤ length page → sets page at xs ≡ put_mid at (length xs) page xs
+put page xs at h = rw (sets-eq xs page at h, append_assoc, drop-drop (length xs) at page)
+
+module _ (page bs : List ℕ) (at k : ℕ) (h : at < length page) (e : k ≡ min (length bs) (length page - at)) where
+  few : length (take k bs) ≡ k
+  few = rw (length-take k bs) (omega arith)
+
+  rest : (p : List ℕ) → length p ≡ length page → (p, at + k) ≡ written (p, at + k) (drop k bs)
+  rest p l = go (leb (length bs) k) refl
+    where
+      go : (t : Bool) → leb (length bs) k ≡ t → (p, at + k) ≡ written (p, at + k) (drop k bs)
+      go true q = rw (drop_of_length-le bs {i = k} (leb-true (length bs) k q)) (written_none (p, at + k))
+      go false q = full p (at + k) (drop k bs) (omega (arith, leb-false (length bs) k q))
+
+  pub as_fits : (put_mid at k page (take k bs), at + k) ≡ written (page, at) bs
+  as_fits =
+      let xs : List ℕ = take k bs in
+      let fits : at + length xs ≤ length page = omega (arith, few) in
+      let first : written (page, at) xs ≡ (put_mid at k page xs, at + k) = rw (by-sets xs page at fits, put page xs at fits, few) in
+      let kept : length (put_mid at k page xs) ≡ length page = ap length (sym (put page xs at fits ∙ ap (λ (n : ℕ). put_mid at n page xs) few)) ∙ length-sets page at xs in
+      rest (put_mid at k page xs) kept
+      ∙ ap (λ (p : List ℕ × ℕ). written p (drop k bs)) (sym first)
+      ∙ written-append (page, at) xs (drop k bs)
+      ∙ ap (written (page, at)) (take-append-drop k bs)
 
 pub at_front : (page bs : List ℕ) → length bs ≤ length page → written (page, 0) bs ≡ (bs ++ drop (length bs) page, length bs)
 at_front page bs h = by-sets bs page 0 (rw zero-add h) ∙ rw (sets-eq bs page 0 (rw zero-add h), zero-add)

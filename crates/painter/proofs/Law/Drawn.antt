@@ -1,26 +1,27 @@
--- What is given by a plan, a room and arrays is what the style gives, whatever the arrays held before.
+-- What is given by a plan, a room and an array of values is what the style gives, whatever the values were before.
 use mathlib.Core.Path.{◌≡◌, refl, ◌∙◌, ap}
 use mathlib.Core.List.{List, [], ◌∷◌, ◌++◌, map}
-use Prim.Native.Nat.{ℕ, suc, ◌+◌, ◌<◌, ◌≤◌, min}
+use Prim.Native.Nat.{ℕ, zero, suc, ◌+◌, ◌<◌, ◌≤◌, min}
 use native.Mathlib.Omega.{arith}
 use borrow.Author.Tests.{le-ltb, le-leb}
 use lib.ListN.{length, drop}
 use Rattle.lexer.specs.Refusal.{Judged, refused, fine, on_fine}
 use Rattle.value.specs.declared.value.Value.{Value}
-use Rattle.plan.specs.Layout.{most_properties, most_defines, most_conditions, show_row, colour_row, test_row, result_row, expressions, show_count, colour_count, condition_count, define_count, spans_size, floats_size, number_at}
+use Rattle.plan.specs.Layout.{most_properties, most_defines, most_conditions, show_row, colour_row, test_row, result_row, expressions, first_define, show_count, colour_count, condition_count, define_count, undeclared, number_at}
 use Rattle.checker.specs.Property.{set_at}
 use Rattle.checker.specs.declared.name.Scope.TheVariants as scope
 use Rattle.checker.specs.declared.check.Wanted.{Wanted}
 use Rattle.checker.specs.declared.check.Wanted.TheVariants as wanted
-use Rattle.evaluator.specs.Values.{value_at}
+use Rattle.evaluator.specs.Values.{value_at, stored}
+use Rattle.evaluator.proofs.Stored.{stored-length}
 use Rattle.style.specs.Answer.{accepted, on_accepted}
 use Rattle.style.specs.Style.{Declared, Expression, Define, Condition, Style, number_in}
 use Rattle.style.specs.Holds.{Each, StyleHeld, Holds}
 use Rattle.style.specs.Accepted.{Stands, AllStand}
 use Rattle.style.proofs.Law.Ladder.{passed}
-use Rattle.feature.specs.Feature.{Values, complete, broken, sets_from, sets_of, entered_of, all_conform, AllOf}
+use Rattle.feature.specs.Feature.{Values, complete, broken, sets_from, sets_of, entered_of, all_conform, AllOf, values_with}
 use Rattle.feature.proofs.Conforming.{read-within, entered-conform}
-use Rattle.feature.proofs.Filled.{filled, spans-kept, floats-kept}
+use Rattle.feature.proofs.Filled.{filled, values-kept}
 use Rattle.feature.proofs.Own.{AllOwn, read-own}
 use Rattle.output.specs.Line.{front}
 use Rattle.output.proofs.Sizes.{painted-fits}
@@ -28,7 +29,7 @@ use Rattle.painter.specs.declared.answer.Given.{Given}
 use Rattle.painter.specs.Given.{given_by}
 use Rattle.painter.specs.Meaning.{property_value, value_of, given_of}
 use Rattle.painter.specs.Paint.{on_values, declared_kinds, schema_of, given_answer, given_line, written_for, featured, least_bytes, out_after}
-use Rattle.painter.specs.Applied.{Source, source, Arrays, row_value, defined_from, all_defined, with_values, row_if, show_rows, colour_rows, conditions_from, given_at, given_under, line_written, written_by, applied_of}
+use Rattle.painter.specs.Applied.{Source, source, row_value, defined_from, all_defined, row_if, show_rows, colour_rows, conditions_from, given_at, given_under, line_written, written_by, applied_of}
 use Rattle.painter.proofs.Law.Values.{Filled, defined_value, style-names}
 use Rattle.painter.proofs.Law.Rows.{own, Defined, defined, row-truth, row-colour}
 use Rattle.painter.proofs.Law.Given.{Both, SameTruth, SameColour, SameCondition, same-given}
@@ -45,6 +46,11 @@ all-size [] (v ∷ vs) a = absurd a
 all-size (d ∷ ds) [] a = absurd a
 all-size (d ∷ ds) (v ∷ vs) a = ap suc (all-size ds vs a.1)
 
+-- defines that are stored leave as many values
+pub defined-length : (x : Source) (n i : ℕ) (a : List Value) → length (defined_from x n i a) ≡ length a
+defined-length x zero i a = refl
+defined-length x (suc n) i a = defined-length x n (suc i) (stored a (first_define + i) (row_value x a i)) ∙ stored-length a (first_define + i) (row_value x a i)
+
 -- ---- a style that a plan and a room hold
 
 module _ (head feature room plan : List ℕ) (fits : length head ≤ length room) (s : Style) (holds : Holds head room plan s) (stand : AllStand s) where
@@ -55,13 +61,13 @@ module _ (head feature room plan : List ℕ) (fits : length head ≤ length room
     size : length s.properties ≡ length vs
     size = all-size s.properties vs conform
 
-    -- ---- expressions, from arrays that have a value for each name
+    -- ---- expressions, where there is a value for each name
 
     abbrev own_value : ℕ → Define → Value
     own_value = own head feature room plan fits s holds stand vs conform owned size
 
-    module _ (a : Arrays)
-        (names : (x : List ℕ) → value_at a.0 a.1 (number_in scope.Style s x) ≡ defined_value own_value x (property_value s.properties vs x) 0 s.defines) where
+    module _ (a : List Value)
+        (names : (x : List ℕ) → value_at a (number_in scope.Style s x) ≡ defined_value own_value x (property_value s.properties vs x) 0 s.defines) where
       abbrev HeldAt : ℕ → Expression → Type 0
       HeldAt row e = StyleHeld head room plan s row e
 
@@ -75,10 +81,10 @@ module _ (head feature room plan : List ℕ) (fits : length head ≤ length room
       SameColours = SameColour values (value_of s feature vs)
 
       same_truth : (row : ℕ) (e : Expression) → row < expressions → HeldAt row e → Stands scope.Style wanted.Boolean s e → SameTruths row e
-      same_truth row e small held st = row-truth head feature room plan fits s holds stand vs conform owned size a.0 a.1 names row e small held st.judged
+      same_truth row e small held st = row-truth head feature room plan fits s holds stand vs conform owned size a names row e small held st.judged
 
       same-colour : (row : ℕ) (e : Expression) → row < expressions → HeldAt row e → Stands scope.Style wanted.Vec4 s e → SameColours row e
-      same-colour row e small held st = row-colour head feature room plan fits s holds stand vs conform owned size a.0 a.1 names row e small held st.judged
+      same-colour row e small held st = row-colour head feature room plan fits s holds stand vs conform owned size a names row e small held st.judged
 
       -- the row of a line of which there is at most one
       one : (R : ℕ → Expression → Type 0) (want : Wanted) (row : ℕ) → ((e : Expression) → HeldAt (row + 0) e → Stands scope.Style want s e → R row e) →
@@ -118,46 +124,46 @@ module _ (head feature room plan : List ℕ) (fits : length head ≤ length room
           ∙ same-given values (value_of s feature vs) (show_rows plan) (colour_rows plan) (conditions_from (length s.conditions) 0)
           s.shows s.colours s.conditions shows colours conditions
 
-    -- ---- the arrays behind a line that is read
+    -- ---- the values behind a line that is read
 
-    module _ (a : Arrays) (spans-size : length a.0 ≡ spans_size) (floats-size : length a.1 ≡ floats_size) where
-      abbrev read : Arrays
-      read = with_values vs a
+    module _ (a : List Value) (a-size : length a ≡ undeclared) where
+      abbrev read : List Value
+      read = values_with 0 vs a
 
       few-values : length vs ≤ most_properties
       few-values = omega (arith, size, holds.few.properties)
 
-      values-filled : Filled read.0 read.1 vs
-      values-filled i h = filled vs a.0 a.1 spans-size floats-size (omega (arith, few-values)) i h
+      values-filled : Filled read vs
+      values-filled i h = filled vs a a-size (omega (arith, few-values)) i h
 
       -- and behind the defines
-      abbrev after : Arrays
+      abbrev after : List Value
       after = defined_from from (length s.defines) 0 read
 
-      abbrev stored : Defined head feature room plan fits s holds stand vs conform owned size read after 0 s.defines
-      stored =
-          defined head feature room plan fits s holds stand vs conform owned size 0 s.defines read.0 read.1
-          (spans-kept 0 vs a.0 ∙ spans-size) (floats-kept 0 vs a.1 ∙ floats-size) (omega (arith, holds.few.defines)) values-filled
+      abbrev stored-defines : Defined head feature room plan fits s holds stand vs conform owned size read after 0 s.defines
+      stored-defines =
+          defined head feature room plan fits s holds stand vs conform owned size 0 s.defines read
+          (values-kept 0 vs a ∙ a-size) (omega (arith, holds.few.defines)) values-filled
           holds.expressed.defines stand.defines
 
-      still-filled : Filled after.0 after.1 vs
-      still-filled i h = stored.below i (omega (arith, few-values)) ∙ values-filled i h
+      still-filled : Filled after vs
+      still-filled i h = stored-defines.below i (omega (arith, few-values)) ∙ values-filled i h
 
       given-after : given_at from (all_defined from read) ≡ given_of s feature vs
       given-after =
           let n : min (number_at plan define_count) most_defines ≡ length s.defines = omega (arith, holds.counted.defines, holds.few.defines) in
           (λ i. given_at from (defined_from from (n i) 0 read))
-          ∙ given after (λ x. style-names s after.0 after.1 vs size still-filled x own_value stored.each)
+          ∙ given after (λ x. style-names s after (defined-length from (length s.defines) 0 read ∙ values-kept 0 vs a ∙ a-size) vs size still-filled x own_value stored-defines.each)
 
   -- ---- any line
 
-  module _ (number : ℕ) (a : Arrays) (spans-size : length a.0 ≡ spans_size) (floats-size : length a.1 ≡ floats_size) where
+  module _ (number : ℕ) (a : List Value) (a-size : length a ≡ undeclared) where
     pub given_is : given_under from number a ≡ given_answer s number feature
     unfolding given_under
     given_is = (λ i. on_values number (entered_of (sets i) number feature) make) ∙ go (entered_of (schema_of s) number feature) refl
       where
         make : List Value → Given
-        make vs = given_at from (all_defined from (with_values vs a))
+        make vs = given_at from (all_defined from (values_with 0 vs a))
 
         sets : sets_of plan ≡ schema_of s
         sets = ap (sets_from plan 0) holds.counted.properties ∙ sets-are plan 0 s.properties holds.sets.properties
@@ -166,7 +172,7 @@ module _ (head feature room plan : List ℕ) (fits : length head ≤ length room
         go (refused r) e = refl
         go (fine (broken vs p)) e = refl
         go (fine (complete vs)) e =
-            ap accepted (given-after vs (entered-conform (schema_of s) number feature vs e) (read-own (schema_of s) number feature vs e) a spans-size floats-size)
+            ap accepted (given-after vs (entered-conform (schema_of s) number feature vs e) (read-own (schema_of s) number feature vs e) a a-size)
 
     fitting : (out line : List ℕ) → length line ≤ length out → front out line ≡ (line ++ drop (length line) out, length line)
     unfolding front

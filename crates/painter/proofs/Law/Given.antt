@@ -1,4 +1,5 @@
 -- Expressions of the same truth and the same colour, one by one, give the same.
+use Rattle.std.specs.Prelude.{Some}
 use mathlib.Core.Path.{◌≡◌, refl, ap}
 use mathlib.Core.Bool.{cond}
 use mathlib.Core.List.{List, [], ◌∷◌}
@@ -6,7 +7,6 @@ use Rattle.colour.specs.Colour.{clamped_of}
 use Rattle.value.specs.Value.{truth, colour_in}
 use Rattle.value.specs.declared.value.Value.{Value}
 use Rattle.style.specs.Style.{Condition}
-use Rattle.colour.specs.declared.colour.Colouring.TheVariants.{Of}
 use Rattle.painter.specs.Given.{shown_by, colour_by, conditioned_by, coloured_by, given_by}
 
 -- two lists, one element after another
@@ -33,7 +33,7 @@ module _ {D E : Type 0} (value : D → Value) (value' : E → Value) where
   same-shown (d ∷ ds) (e ∷ es) s = s.0
 
   same-colour : (d : D) (e : E) → SameColour d e → colour_by value d ≡ colour_by value' e
-  same-colour d e s = ap (λ c. Of (clamped_of c)) s
+  same-colour d e s = ap (λ c. Some (clamped_of c)) s
 
   same-conditioned : (cs : List (Condition D)) (ks : List (Condition E)) → Both SameCondition cs ks → conditioned_by value cs ≡ conditioned_by value' ks
   same-conditioned [] [] s = refl

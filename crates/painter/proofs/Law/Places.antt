@@ -1,4 +1,5 @@
 -- An expression is worked out as at its places in the head, or as at other places: it comes to the same but for where strings lie.
+use Rattle.std.specs.Prelude.{Option, Some, None}
 use mathlib.Core.Path.{◌≡◌, refl, sym, ◌∙◌, ap}
 use mathlib.Core.Bool.{Bool, true, false, true≢false}
 use mathlib.Core.List.{List}
@@ -9,8 +10,6 @@ use lib.Seq.{slice, take-take, length-slice}
 use Rattle.lexer.specs.Token.{meaning}
 use Rattle.lexer.proofs.Law.Spelling.{slice_is}
 use Rattle.value.specs.Value.{text_in}
-use Rattle.value.specs.declared.apply.Outcome.{Outcome}
-use Rattle.value.specs.declared.apply.Outcome.TheVariants as outcome
 use Rattle.value.specs.declared.value.Span.{Span}
 use Rattle.value.specs.declared.value.Value.{Value}
 use Rattle.value.specs.declared.value.Value.TheVariants.{Undefined, Null, Boolean, Number, String, Vec2, Vec3, Vec4}
@@ -83,11 +82,11 @@ own-alike head feature to whole (Vec3 x y z) o = same (Vec3 x y z) tt
 own-alike head feature to whole (Vec4 x y z w) o = same (Vec4 x y z w) tt
 
 -- what goes together from an end on does from a later one
-pub later : (head feature : List ℕ) (to more : ℕ) (whole : List ℕ) → to ≤ more → (o p : Outcome) → AlikeOutcomes (Together head feature to whole) o p → AlikeOutcomes (Together head feature more whole) o p
-later head feature to more whole h outcome.Fault outcome.Fault a = tt
-later head feature to more whole h outcome.Fault (outcome.Worked w) a = a
-later head feature to more whole h (outcome.Worked v) outcome.Fault a = a
-later head feature to more whole h (outcome.Worked v) (outcome.Worked w) a = go a
+pub later : (head feature : List ℕ) (to more : ℕ) (whole : List ℕ) → to ≤ more → (o p : Option Value) → AlikeOutcomes (Together head feature to whole) o p → AlikeOutcomes (Together head feature more whole) o p
+later head feature to more whole h None None a = tt
+later head feature to more whole h None (Some w) a = a
+later head feature to more whole h (Some v) None a = a
+later head feature to more whole h (Some v) (Some w) a = go a
   where
     go : {v w : Value} → Alike (Together head feature to whole) v w → Alike (Together head feature more whole) v w
     go (same v n) = same v n
@@ -96,7 +95,7 @@ later head feature to more whole h (outcome.Worked v) (outcome.Worked w) a = go 
 -- ---- an expression
 
 pub expression-alike : (head feature : List ℕ) (from to : ℕ) (e : Expression) (base : ℕ) (whole : List ℕ) → slice from to head ≡ e.text → to ≤ length head → Lies base e.text whole →
-    (names others : List ℕ → Outcome) → ((x : List ℕ) → AlikeOutcomes (Together head feature to whole) (names x) (others x)) →
+    (names others : List ℕ → Option Value) → ((x : List ℕ) → AlikeOutcomes (Together head feature to whole) (names x) (others x)) →
     AlikeOutcomes (Together head feature to whole) (expression_at (text_in (take to head) feature) from names e) (expression_at (text_in whole feature) base others e)
 expression-alike head feature from to e base whole is inside lies names others alike =
     eval-alike (Together head feature to whole)

@@ -1,10 +1,10 @@
--- Values by names: what the arrays have for a name's number is what the style has for the name.
+-- Values by names: what there is for a name's number is what the style has for the name.
 use mathlib.Core.Path.{◌≡◌, refl, sym, ◌∙◌, ap}
 use mathlib.Core.Bool.{Bool, true, false, cond}
 use mathlib.Core.List.{List, [], ◌∷◌, map}
 use Prim.Native.Nat.{ℕ, suc, ◌+◌, ◌<◌, ◌≤◌}
 use native.Mathlib.Omega.{arith}
-use lib.Ieee.{Float}
+use Rattle.std.proofs.lemmas.List.{get_or_past}
 use lib.ListN.{length, get_or}
 use Rattle.lexer.specs.Bytes.{same}
 use Rattle.lexer.proofs.Law.Runs.{by-test}
@@ -40,27 +40,26 @@ few-numbers scope.Style s few x =
 
 -- ---- values
 
--- the arrays have a value for each property
-abbrev pub Filled : List ℕ → List Float → List Value → Type 0
-Filled spans floats vs = (i : ℕ) → i < length vs → value_at spans floats i ≡ get_or vs i Undefined
+-- there is a value for each property
+abbrev pub Filled : List Value → List Value → Type 0
+Filled values vs = (i : ℕ) → i < length vs → value_at values i ≡ get_or vs i Undefined
 
 -- the value of the first define from i on that has a name, or another
 abbrev pub defined_value : (ℕ → Define → Value) → List ℕ → Value → ℕ → List Define → Value
 defined_value own x other i [] = other
 defined_value own x other i (d ∷ ds) = cond (same x d.name) (own i d) (defined_value own x other (suc i) ds)
 
-module _ (spans : List ℕ) (floats : List Float) (x : List ℕ) where
+module _ (values : List Value) (room : length values ≡ undeclared) (x : List ℕ) where
   -- what stands for a number stands for its value
-  through : (b : Bool) (n m : ℕ) (v w : Value) → value_at spans floats n ≡ v → value_at spans floats m ≡ w → value_at spans floats (cond b n m) ≡ cond b v w
+  through : (b : Bool) (n m : ℕ) (v w : Value) → value_at values n ≡ v → value_at values m ≡ w → value_at values (cond b n m) ≡ cond b v w
   through true n m v w h k = h
   through false n m v w h k = k
 
-  none : value_at spans floats undeclared ≡ Undefined
-  unfolding value_at
-  none = refl
+  none : value_at values undeclared ≡ Undefined
+  none = get_or_past values undeclared Undefined (omega (arith, room))
 
-  properties-from : (n : ℕ) (ds : List Declared) (vs : List Value) → length ds ≡ length vs → ((i : ℕ) → i < length vs → value_at spans floats (n + i) ≡ get_or vs i Undefined) →
-      value_at spans floats (number_from n (map name_of ds) undeclared x) ≡ property_value ds vs x
+  properties-from : (n : ℕ) (ds : List Declared) (vs : List Value) → length ds ≡ length vs → ((i : ℕ) → i < length vs → value_at values (n + i) ≡ get_or vs i Undefined) →
+      value_at values (number_from n (map name_of ds) undeclared x) ≡ property_value ds vs x
   properties-from n [] vs size f = none
   properties-from n (d ∷ ds) [] size f = absurd (omega arith)
   properties-from n (d ∷ ds) (v ∷ vs) size f =
@@ -68,23 +67,23 @@ module _ (spans : List ℕ) (floats : List Float) (x : List ℕ) where
       through (same x d.name) n _ v _ (rw here at (f 0 (omega arith)))
       (properties-from (suc n) ds vs (omega arith) (λ i h. let e : n + suc i ≡ suc n + i = omega arith in rw e at (f (suc i) (omega arith))))
 
-  defines-from : (own : ℕ → Define → Value) (m : ℕ) (other : Value) → value_at spans floats m ≡ other → (i : ℕ) (ds : List Define) →
-      Each (λ i (d : Define). value_at spans floats (first_define + i) ≡ own i d) i ds → value_at spans floats (number_from (first_define + i) (map define_name ds) m x) ≡ defined_value own x other i ds
+  defines-from : (own : ℕ → Define → Value) (m : ℕ) (other : Value) → value_at values m ≡ other → (i : ℕ) (ds : List Define) →
+      Each (λ i (d : Define). value_at values (first_define + i) ≡ own i d) i ds → value_at values (number_from (first_define + i) (map define_name ds) m x) ≡ defined_value own x other i ds
   defines-from own m other o i [] hs = o
   defines-from own m other o i (d ∷ ds) hs =
       let next : suc (first_define + i) ≡ first_define + suc i = omega arith in
       through (same x d.name) (first_define + i) _ (own i d) _ hs.0
-      (ap (λ (n : ℕ). value_at spans floats (number_from n (map define_name ds) m x)) next ∙ defines-from own m other o (suc i) ds hs.1)
+      (ap (λ (n : ℕ). value_at values (number_from n (map define_name ds) m x)) next ∙ defines-from own m other o (suc i) ds hs.1)
 
 -- ---- the names of a style
 
-module _ (s : Style) (spans : List ℕ) (floats : List Float) (vs : List Value) (size : length s.properties ≡ length vs) (filled : Filled spans floats vs) (x : List ℕ) where
+module _ (s : Style) (values : List Value) (room : length values ≡ undeclared) (vs : List Value) (size : length s.properties ≡ length vs) (filled : Filled values vs) (x : List ℕ) where
   -- inside a define every name is a property
-  pub define-names : value_at spans floats (number_in scope.Define s x) ≡ property_value s.properties vs x
+  pub define-names : value_at values (number_in scope.Define s x) ≡ property_value s.properties vs x
   define-names =
-      properties-from spans floats x 0 s.properties vs size (λ i h. let e : i ≡ 0 + i = omega arith in ap (value_at spans floats) (sym e) ∙ filled i h)
+      properties-from values room x 0 s.properties vs size (λ i h. let e : i ≡ 0 + i = omega arith in ap (value_at values) (sym e) ∙ filled i h)
 
   -- "In `show`, `color` and `cond` a define hides a property of its name"
-  pub style-names : (own : ℕ → Define → Value) → Each (λ i (d : Define). value_at spans floats (first_define + i) ≡ own i d) 0 s.defines →
-      value_at spans floats (number_in scope.Style s x) ≡ defined_value own x (property_value s.properties vs x) 0 s.defines
-  style-names own held = defines-from spans floats x own (number_in scope.Define s x) _ define-names 0 s.defines held
+  pub style-names : (own : ℕ → Define → Value) → Each (λ i (d : Define). value_at values (first_define + i) ≡ own i d) 0 s.defines →
+      value_at values (number_in scope.Style s x) ≡ defined_value own x (property_value s.properties vs x) 0 s.defines
+  style-names own held = defines-from values room x own (number_in scope.Define s x) _ define-names 0 s.defines held

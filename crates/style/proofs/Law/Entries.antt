@@ -1,29 +1,25 @@
 -- An item is judged: what a return of each function says.
+use Rattle.std.specs.Prelude.{Result, Ok, Err}
 use mathlib.Core.Path.{◌≡◌, refl, sym, ◌∙◌, ap, subst}
-use mathlib.Core.Bool.{Bool, true, false, true≢false}
+use mathlib.Core.Bool.{true}
 use mathlib.Core.List.{List}
 use Prim.Native.Nat.{ℕ}
 use Rattle.lexer.specs.Refusal.{Judged, fine, on_fine}
 use Rattle.lexer.specs.declared.refusal.Refusal.{Refusal}
 use Rattle.checker.specs.declared.name.Scope.TheVariants as scope
-use Rattle.checker.specs.declared.check.Wanted.TheVariants as wanted
 use Rattle.text.specs.Parts.{field, field_start}
 use Rattle.text.specs.Name.{is_name}
 use Rattle.text.specs.declared.part.Part.{Part}
-use Rattle.text.specs.declared.word.Line.{Line}
-use Rattle.text.specs.declared.word.Line.TheVariants as word
-use Rattle.style.specs.Style.{Style, condition, number_in}
-use Rattle.style.specs.Item.{item_of, item_judged, define_judged, expression, line_said}
+use Rattle.style.specs.Style.{Style, number_in}
+use Rattle.style.specs.Item.{item_of, item_judged, expression, line_said}
 use Rattle.style.specs.Item as item
 use Rattle.style.specs.Compile.{laid}
-use Rattle.style.specs.Inner.{Reads, FieldLies, ItemLies, ItemIs, Of, is_eight, ItemBy, FieldBy, EntryIs, AddedBy, DefinedBy, single_purpose, single_entry, SingleJudgedBy, ColouredBy, ConditionJudgedBy, JudgedBy, ReadBy}
+use Rattle.style.specs.Inner.{FieldLies, ItemLies, ItemBy, FieldBy, JudgedBy, ReadBy, admits_by}
+use Rattle.style.specs.declared.item.Before.{Before}
 use Rattle.style.specs.declared.item.Item.{Item}
 use Rattle.style.specs.declared.item.Item.TheVariants as read
-use Rattle.style.specs.declared.expression.Purpose.{Purpose}
 use Rattle.style.specs.declared.expression.Purpose.TheVariants as purpose
 use Rattle.style.specs.declared.entry.Expression as code
-use Rattle.style.specs.declared.entry.Field.{Field}
-use Rattle.style.specs.declared.entry.Field.TheVariants as field_of
 use Rattle.style.specs.declared.entry.Entry as entries
 use Rattle.style.specs.declared.entry.Entry.TheVariants as entry
 
@@ -31,126 +27,96 @@ use Rattle.style.specs.declared.entry.Entry.TheVariants as entry
 on : {A B : Type 0} {j : Judged A} (k : A → Judged B) {x : Judged A} → j ≡ x → on_fine j k ≡ on_fine x k
 on k e = ap (λ j. on_fine j k) e
 
-module _ (head names plan line w v : List ℕ) where
+module _ (b : Before) (line w v : List ℕ) where
+  abbrev Judges : Item → Result entries.Entry Refusal → Type 0
+  Judges i r = JudgedBy i b line w v r
+
+  -- the item decides what is judged
+  by-item : (s : Style) {j : Judged item.Item} {x : item.Item} {y : Judged _} → j ≡ fine x → item_judged s x ≡ y → on_fine j (item_judged s) ≡ y
+  by-item s h e = on (item_judged s) h ∙ e
+
+  -- ---- `prop`
+
+  pub judged-property : (name : Part) (k : ℕ) → ItemLies line (read.Property name k) → v ≡ w → Judges (read.Property name k) (Ok (entry.Property name k))
+  unfolding item_judged
+  judged-property name k lies same = (
+    refl,
+    λ s says j h. (h.0, by-item s h.1 refl, (lies, h.2, subst (λ (x : List ℕ). is_name x ≡ true) (sym h.2) h.3), h.4, same),
+  )
+
   -- ---- `define`
 
-  module _ (name text : Part) (named : FieldLies line 1 name) (lies : FieldLies line 2 text) (r : Field) (by : FieldBy purpose.Define text head names plan line w v r) where
-    pub define-refused : (x : Refusal) → r ≡ field_of.Refused x → DefinedBy head names plan line w v (entry.Refused x)
-    define-refused x e = (tt, λ s reads ok. on _ (subst (FieldBy purpose.Define text head names plan line w v) e by 2 lies s reads))
+  module _ (name text : Part) (lies : ItemLies line (read.Define name text)) where
+    pub define-refused : (x : Refusal) → FieldBy purpose.Define text b line w v (Err x) → Judges (read.Define name text) (Err x)
+    unfolding item_judged
+    define-refused x by = λ s says j h. by-item s h.0 (on _ (by 2 lies.1 s says))
 
-    pub define-accepted : (x : code.Expression) → r ≡ field_of.Accepted x → DefinedBy head names plan line w v (entry.Define name x)
-    define-accepted x e = (
+    pub define-accepted : (x : code.Expression) → FieldBy purpose.Define text b line w v (Ok x) → Judges (read.Define name text) (Ok (entry.Define name x))
+    unfolding item_judged
+    define-accepted x by = (
       refl,
-      λ s reads ok.
-          let a = subst (FieldBy purpose.Define text head names plan line w v) e by 2 lies s reads in
-          (record { name = field line 1; expression = a.0 }, on _ a.1, (named, refl, ok), a.2, a.3),
+      λ s says j h.
+          let a = by 2 lies.1 s says in
+          (record { name = field line 1; expression = a.0 }, by-item s h.0 (on _ a.1), (lies.0, refl, h.1), a.2, a.3),
     )
 
   -- ---- `show` and `color`
 
-  module _ (c : Bool) (text : Part) (lies : FieldLies line 1 text) (q : Purpose) (is : q ≡ single_purpose c) (r : Field) (by : FieldBy q text head names plan line w v r) where
-    abbrev By : Bool → Field → Type 0
-    By c r = FieldBy (single_purpose c) text head names plan line w v r
-
-    own : By c r
-    own = subst (λ (q : Purpose). FieldBy q text head names plan line w v r) is by
-
-    pub single-refused : (x : Refusal) → r ≡ field_of.Refused x → SingleJudgedBy c head names plan line w v (entry.Refused x)
+  module _ (text : Part) (lies : FieldLies line 1 text) where
+    pub show-refused : (x : Refusal) → FieldBy purpose.Test text b line w v (Err x) → Judges (read.Show text) (Err x)
     unfolding item_judged
-    single-refused x e = go c (subst (By c) e own)
-      where
-        go : (c : Bool) → By c (field_of.Refused x) → SingleJudgedBy c head names plan line w v (entry.Refused x)
-        go true a = (tt, λ s reads. on _ (a 1 lies s reads))
-        go false a = (tt, λ s reads. on _ (a 1 lies s reads))
+    show-refused x by = λ s says j h. by-item s h (on _ (by 1 lies s says))
 
-    pub single-accepted : (x : code.Expression) → r ≡ field_of.Accepted x → (y : entries.Entry) → y ≡ single_entry c x → SingleJudgedBy c head names plan line w v y
+    pub show-accepted : (x : code.Expression) → FieldBy purpose.Test text b line w v (Ok x) → Judges (read.Show text) (Ok (entry.Show x))
     unfolding item_judged
-    single-accepted x e y is_y = subst (SingleJudgedBy c head names plan line w v) (sym is_y) (go c (subst (By c) e own))
-      where
-        go : (c : Bool) → By c (field_of.Accepted x) → SingleJudgedBy c head names plan line w v (single_entry c x)
-        go true a = (refl, λ s reads. let b = a 1 lies s reads in (b.0, on _ b.1, b.2, b.3))
-        go false a = (refl, λ s reads. let b = a 1 lies s reads in (b.0, on _ b.1, b.2, b.3))
+    show-accepted x by = (refl, λ s says j h. let a = by 1 lies s says in (a.0, by-item s h (on _ a.1), a.2, a.3))
+
+    pub colour-refused : (x : Refusal) → FieldBy purpose.Colour text b line w v (Err x) → Judges (read.Colour text) (Err x)
+    unfolding item_judged
+    colour-refused x by = λ s says j h. by-item s h (on _ (by 1 lies s says))
+
+    pub colour-accepted : (x : code.Expression) → FieldBy purpose.Colour text b line w v (Ok x) → Judges (read.Colour text) (Ok (entry.Colour x))
+    unfolding item_judged
+    colour-accepted x by = (refl, λ s says j h. let a = by 1 lies s says in (a.0, by-item s h (on _ a.1), a.2, a.3))
 
   -- ---- `cond`
 
-  -- its colour
-  module _ (x : code.Expression) (text : Part) (lies : FieldLies line 2 text) (r : Field) (by : FieldBy purpose.Colour text head names plan line w v r) where
-    pub colour-refused : (y : Refusal) → r ≡ field_of.Refused y → ColouredBy x head names plan line w v (entry.Refused y)
-    colour-refused y e = (tt, λ s reads w₀ t lain is. on _ (subst (FieldBy purpose.Colour text head names plan line w v) e by 2 lies s reads))
-
-    pub colour-accepted : (y : code.Expression) → r ≡ field_of.Accepted y → ColouredBy x head names plan line w v (entry.Condition x y)
-    colour-accepted y e = (
-      refl,
-      λ s reads w₀ t lain is.
-          let a = subst (FieldBy purpose.Colour text head names plan line w v) e by 2 lies s reads in
-          (record { test = t; colour = a.0 }, on _ a.1, lain, a.2, a.3 ∙ ap (laid (number_in scope.Style s) (field_start line 2) a.0) is),
-    )
-
-  -- the test before it; u are the slots between the two
-  module _ (text : Part) (lies : FieldLies line 1 text) (u : List ℕ) (r : Field) (by : FieldBy purpose.Test text head names plan line w u r) where
-    pub condition-refused : (x : Refusal) → r ≡ field_of.Refused x → ConditionJudgedBy head names plan line w v (entry.Refused x)
+  module _ (test text : Part) (lies : ItemLies line (read.Condition test text)) where
+    pub test-refused : (x : Refusal) → FieldBy purpose.Test test b line w v (Err x) → Judges (read.Condition test text) (Err x)
     unfolding item_judged
-    condition-refused x e = (tt, λ s reads. on _ (subst (FieldBy purpose.Test text head names plan line w u) e by 1 lies s reads))
+    test-refused x by = λ s says j h. by-item s h (on _ (by 1 lies.0 s says))
 
-    pub condition-accepted : (x : code.Expression) → r ≡ field_of.Accepted x → (y : entries.Entry) → ColouredBy x head names plan line u v y → ConditionJudgedBy head names plan line w v y
-    unfolding item_judged
-    condition-accepted x e y rest = (
-      rest.0,
-      λ s reads.
-          let a = subst (FieldBy purpose.Test text head names plan line w u) e by 1 lies s reads in
-          subst (EntryIs s line w v y)
-          (sym (on (λ t. expression s wanted.Vec4 (field line 2) (λ e. fine (condition (record { test = t; colour = e })))) a.1))
-          (rest.1 s reads w a.0 a.2 a.3),
-    )
+    -- its colour; u are the slots between the two
+    module _ (u : List ℕ) (x : code.Expression) (by : FieldBy purpose.Test test b line w u (Ok x)) where
+      pub result-refused : (y : Refusal) → FieldBy purpose.Colour text b line u v (Err y) → Judges (read.Condition test text) (Err y)
+      unfolding item_judged
+      result-refused y more = λ s says j h. by-item s h (on _ (by 1 lies.0 s says).1 ∙ on _ (more 2 lies.1 s says))
 
-  -- ---- any item
-
-  module _ (i : Item) (lies : ItemLies line i) where
-    abbrev Judges : Item → entries.Entry → Type 0
-    Judges i r = JudgedBy i head names plan line w v r
-
-    pub judged-refused : (x : Refusal) → i ≡ read.Refused x → Judges i (entry.Refused x)
-    judged-refused x e =
-        subst (λ (i : Item). Judges i (entry.Refused x)) (sym e) (λ f. absurd (true≢false f), λ l o. tt, λ s reads j h. on (item_judged s) h)
-
-    pub judged-property : (name : Part) (k : ℕ) → i ≡ read.Property name k → v ≡ w → Judges i (entry.Property name k)
-    unfolding item_judged
-    judged-property name k e same =
-        subst (λ (i : Item). Judges i (entry.Property name k)) (sym e) (
-          λ f. refl,
-          λ l o. o,
-          λ s reads j h.
-              (h.0, on (item_judged s) h.1, (subst (ItemLies line) e lies, h.2, subst (λ (x : List ℕ). is_name x ≡ true) (sym h.2) h.3), h.4, same),
-        )
-
-    -- what the function of a word answers for its item
-    judged-as : (x : Item) (l : Line) (r : entries.Entry) → i ≡ x → is_eight x ≡ false → ((m : Line) → Of m x → m ≡ l) → AddedBy l r →
-        ((s : Style) → Reads head names plan s → (j : Judged item.Item) → ItemIs line x j → EntryIs s line w v r (on_fine j (item_judged s))) → Judges i r
-    judged-as x l r e f o by is =
-        subst (λ (i : Item). Judges i r) (sym e) (λ _. f, λ m q. subst (λ (l : Line). AddedBy l r) (sym (o m q)) by, is)
-
-    -- the item decides what is judged
-    by-item : (s : Style) (r : entries.Entry) {j : Judged item.Item} {x : item.Item} → j ≡ fine x → EntryIs s line w v r (item_judged s x) → EntryIs s line w v r (on_fine j (item_judged s))
-    by-item s r h is = subst (EntryIs s line w v r) (sym (on (item_judged s) h)) is
-
-    pub judged-define : (name text : Part) (r : entries.Entry) → i ≡ read.Define name text → DefinedBy head names plan line w v r → Judges i r
-    unfolding item_judged
-    judged-define name text r e by = judged-as (read.Define name text) word.Define r e refl (λ m o. o) by.0 (λ s reads j h. by-item s r h.0 (by.1 s reads h.1))
-
-    pub judged-show : (text : Part) (r : entries.Entry) → i ≡ read.Show text → SingleJudgedBy false head names plan line w v r → Judges i r
-    judged-show text r e by = judged-as (read.Show text) word.Show r e refl (λ m o. o) by.0 (λ s reads j h. by-item s r h (by.1 s reads))
-
-    pub judged-colour : (text : Part) (r : entries.Entry) → i ≡ read.Colour text → SingleJudgedBy true head names plan line w v r → Judges i r
-    judged-colour text r e by = judged-as (read.Colour text) word.Color r e refl (λ m o. o) by.0 (λ s reads j h. by-item s r h (by.1 s reads))
-
-    pub judged-condition : (test text : Part) (r : entries.Entry) → i ≡ read.Condition test text → ConditionJudgedBy head names plan line w v r → Judges i r
-    judged-condition test text r e by = judged-as (read.Condition test text) word.Cond r e refl (λ m o. o) by.0 (λ s reads j h. by-item s r h (by.1 s reads))
+      pub result-accepted : (y : code.Expression) → FieldBy purpose.Colour text b line u v (Ok y) → Judges (read.Condition test text) (Ok (entry.Condition x y))
+      unfolding item_judged
+      result-accepted y more = (
+        refl,
+        λ s says j h.
+            let a = by 1 lies.0 s says in
+            let c = more 2 lies.1 s says in (
+              record { test = a.0; colour = c.0 },
+              by-item s h (on _ a.1 ∙ on _ c.1),
+              a.2,
+              c.2,
+              c.3 ∙ ap (laid (number_in scope.Style s) (field_start line 2) c.0) a.3,
+            ),
+      )
 
   -- ---- a line
 
-  pub read_is : (i : Item) (r : entries.Entry) → ItemBy head names plan line i → JudgedBy i head names plan line w v r → ReadBy head names plan line w v r
+  pub read-eight : (x : Refusal) → ItemBy b line (Err x) → ReadBy b line w v (Err x)
   unfolding line_said
-  read_is i r a b = record {
-    admitted = λ f. let (l, of, ok) = a.admitted (b.0 f) in (l, b.1 l of, ok);
-    is = λ s n reads. b.2 s reads (item_of s line) (a.is s n reads);
-  }
+  read-eight x by = λ s n says. on (item_judged s) (by s n says)
+
+  pub read_is : (i : Item) → ItemBy b line (Ok i) → (r : Result entries.Entry Refusal) → JudgedBy i b line w v r → ReadBy b line w v r
+  unfolding line_said
+  read_is i a (Err x) by = λ s n says. by s says (item_of s line) (a.2 s n says)
+  read_is i a (Ok e) by = (
+    ap (admits_by b.plan.now) by.0 ∙ a.0,
+    λ s n says. by.1 s says (item_of s line) (a.2 s n says),
+  )

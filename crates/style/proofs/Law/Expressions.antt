@@ -1,6 +1,6 @@
 -- One expression: what the judge, the names and the checker say together.
+use Rattle.std.specs.Prelude.{Result, Ok, Err}
 use mathlib.Core.Path.{◌≡◌, refl, sym, ◌∙◌, ap, subst}
-use mathlib.Core.Bool.{Bool, true, false, false≢true}
 use mathlib.Core.List.{List}
 use Prim.Native.Nat.{ℕ, zero, suc, ◌+◌, ◌-◌, ◌<◌, ◌≤◌}
 use native.Mathlib.Omega.{arith}
@@ -21,8 +21,6 @@ use Rattle.tree.specs.Slots.{put, variable_tag}
 use Rattle.tree.proofs.Law.Places.{root-within, root-shape}
 use Rattle.syntax.specs.Judge.{judged_of, root_of, judgement_of, slots_after}
 use Rattle.syntax.specs.Judge as judge
-use Rattle.syntax.specs.declared.judge.Judgement.{Judgement}
-use Rattle.syntax.specs.declared.judge.Judgement.TheVariants as judgement
 use Rattle.syntax.proofs.Laid.{judged-fits}
 use Rattle.checker.specs.Name.{name_in, name_at, number_of, numbered, onward, resolved_from, resolved_slots}
 use Rattle.checker.specs.Property.{packed_of}
@@ -30,8 +28,6 @@ use Rattle.checker.specs.Kinds.{kinds_of, result_of}
 use Rattle.checker.specs.Check.{checked_at}
 use Rattle.checker.specs.Check as checker
 use Rattle.checker.specs.declared.name.Scope.{Scope}
-use Rattle.checker.specs.declared.check.Verdict.{Verdict}
-use Rattle.checker.specs.declared.check.Verdict.TheVariants as verdict
 use Rattle.checker.specs.declared.check.Wanted.{Wanted}
 use Rattle.checker.proofs.Resolved.{number-below}
 use Rattle.checker.proofs.Named.{checked-named}
@@ -42,11 +38,10 @@ use Rattle.text.specs.declared.part.Part.{Part}
 use Rattle.style.specs.Style.{Style, kinds_in, number_in}
 use Rattle.style.specs.Expression.{by_kinds, expression_of}
 use Rattle.style.specs.Compile.{laid}
-use Rattle.style.specs.Inner.{Reads, scope_of, wanted_of, judged_for, EnteredBy, FieldBy}
+use Rattle.style.specs.Inner.{Says, scope_of, wanted_of, judged_for, EnteredBy, FieldBy}
 use Rattle.style.specs.declared.expression.Purpose.{Purpose}
 use Rattle.style.specs.declared.expression.Entered.{Entered}
-use Rattle.style.specs.declared.expression.Entered.TheVariants as entered
-use Rattle.style.specs.declared.entry.Field.TheVariants as field_of
+use Rattle.style.specs.declared.item.Before.{Before}
 use Rattle.style.proofs.Law.Items.{field-text}
 
 -- ---- numbers of names that are alike
@@ -79,64 +74,52 @@ module _ (number number' : List ℕ → ℕ) (alike : (x : List ℕ) → 0 < len
 
 -- ---- what the judge answers
 
-abbrev root_in : Judged ℕ → ℕ
-root_in (fine r) = r
-root_in (refused x) = 0
-
-abbrev is_fine : Judged ℕ → Bool
-is_fine (fine r) = true
-is_fine (refused x) = false
-
-abbrev as_refused : Judged ℕ → Refusal → Refusal
-as_refused (fine r) y = y
-as_refused (refused x) y = x
-
 fine-is : (j : Judged Tree) (r : ℕ) → root_of j ≡ fine r → (e : Tree) × (j ≡ fine e) × (r ≡ place e)
-fine-is (fine e) r h = (e, refl, sym (ap root_in h))
-fine-is (refused x) r h = absurd (false≢true (ap is_fine h))
+fine-is (fine e) r h = (e, refl, cc)
+fine-is (refused x) r h = absurd cc
 
 refused-is : (j : Judged Tree) (x : Refusal) → root_of j ≡ refused x → j ≡ refused x
-refused-is (fine e) x h = absurd (false≢true (sym (ap is_fine h)))
-refused-is (refused y) x h = ap (λ j. refused (as_refused j y)) h
+refused-is (fine e) x h = absurd cc
+refused-is (refused y) x h = cc
 
 -- ---- an expression and the slots beside it
 
-module _ (q : Purpose) (head names plan text w : List ℕ) (room : length w ≡ length text) (r : Judgement) (is : judge.answer_of r ≡ judgement_of (length w) text) where
+module _ (q : Purpose) (b : Before) (text w : List ℕ) (room : length w ≡ length text) (r : Result ℕ Refusal) (is : judge.answer_of r ≡ judgement_of (length w) text) where
   -- with as many slots as bytes
   judged-is : root_of (judged_of text) ≡ judge.answer_of r
   judged-is = sym (is ∙ rw (le-ltb (length w) (length text) (omega arith)))
 
-  pub judge-refuses : (x : Refusal) → r ≡ judgement.Refused x → (v : List ℕ) → EnteredBy q head names plan text w v (entered.Refused x)
+  pub judge-refuses : (x : Refusal) → r ≡ Err x → (v : List ℕ) → EnteredBy q b text w v (Err x)
   unfolding expression_of
   judge-refuses x e v =
       λ s reads.
       ap (λ j. on_fine j (λ e. by_kinds (checker.answer_of (result_of (wanted_of q) (length text) (kinds_of (λ p n. kinds_in (scope_of q) s (name_at text p)) e))) text e))
       (refused-is (judged_of text) x (judged-is ∙ ap judge.answer_of e))
 
-  module _ (root : ℕ) (e : r ≡ judgement.Fine root) (c : Scope) (is_c : c ≡ scope_of q) (v : List ℕ) (beside : v ≡ resolved_slots (number_of c head names) text (slots_after w text)) (want : Wanted)
-      (is-want : want ≡ wanted_of q) (said : Verdict) (checked : checker.answer_of said ≡ checked_at v plan root want (length text)) where
+  module _ (root : ℕ) (e : r ≡ Ok root) (c : Scope) (is_c : c ≡ scope_of q) (v : List ℕ) (beside : v ≡ resolved_slots (number_of c b.head.now b.names.now) text (slots_after w text)) (want : Wanted)
+      (is-want : want ≡ wanted_of q) (said : Result Kinds Refusal) (checked : checker.answer_of said ≡ checked_at v b.plan.now root want (length text)) where
     tree : (t : Tree) × (judged_of text ≡ fine t) × (root ≡ place t)
     tree = fine-is (judged_of text) root (judged-is ∙ ap judge.answer_of e)
 
-    small : (x : List ℕ) → number_of (scope_of q) head names x < 1024
-    small x = omega (arith, number-below (scope_of q) head names x)
+    small : (x : List ℕ) → number_of (scope_of q) b.head.now b.names.now x < 1024
+    small x = omega (arith, number-below (scope_of q) b.head.now b.names.now x)
 
     root-small : root < 1024
     root-small =
         let d = judged-fits text tree.0 tree.1 in
         omega (arith, tree.2, root-shape tree.0, d.0, (root-within 0 (length text) _ d.2).1)
 
-    beside-q : v ≡ resolved_slots (number_of (scope_of q) head names) text (slots_after w text)
-    beside-q = beside ∙ ap (λ (c : Scope). resolved_slots (number_of c head names) text (slots_after w text)) is_c
+    beside-q : v ≡ resolved_slots (number_of (scope_of q) b.head.now b.names.now) text (slots_after w text)
+    beside-q = beside ∙ ap (λ (c : Scope). resolved_slots (number_of c b.head.now b.names.now) text (slots_after w text)) is_c
 
-    module _ (s : Style) (reads : Reads head names plan s) where
+    module _ (s : Style) (reads : Says b s) where
       -- the checker's verdict is that on the tree, by its names
       by_names : checker.answer_of (result_of (wanted_of q) (length text) (kinds_of (λ p n. kinds_in (scope_of q) s (name_at text p)) tree.0)) ≡ checker.answer_of said
       by_names =
           sym
           (checked
-          ∙ (λ i. checked_at (beside-q i) plan (tree.2 i) (is-want i) (length text))
-          ∙ checked-named (number_of (scope_of q) head names) small text w tree.0 tree.1 (omega arith) plan (wanted_of q) (length text)
+          ∙ (λ i. checked_at (beside-q i) b.plan.now (tree.2 i) (is-want i) (length text))
+          ∙ checked-named (number_of (scope_of q) b.head.now b.names.now) small text w tree.0 tree.1 (omega arith) b.plan.now (wanted_of q) (length text)
           ∙ (λ i. checker.answer_of (result_of (wanted_of q) (length text) (kinds_of (λ p n. reads.kinds (scope_of q) (name_at text p) i) tree.0))))
 
       judged-as : judged_for q s text ≡ by_kinds (checker.answer_of said) text tree.0
@@ -145,36 +128,36 @@ module _ (q : Purpose) (head names plan text w : List ℕ) (room : length w ≡ 
           ap (λ j. on_fine j (λ e. by_kinds (checker.answer_of (result_of (wanted_of q) (length text) (kinds_of (λ p n. kinds_in (scope_of q) s (name_at text p)) e))) text e)) tree.1
           ∙ ap (λ a. by_kinds a text tree.0) by_names
 
-    pub check-refuses : (x : Refusal) → said ≡ verdict.Refused x → EnteredBy q head names plan text w v (entered.Refused x)
+    pub check-refuses : (x : Refusal) → said ≡ Err x → EnteredBy q b text w v (Err x)
     check-refuses x h = λ s reads. judged-as s reads ∙ ap (λ a. by_kinds (checker.answer_of a) text tree.0) h
 
-    pub check-accepts : (k : Kinds) (byte : ℕ) → said ≡ verdict.Accepted k → byte ≡ packed_of k → EnteredBy q head names plan text w v (entered.Accepted root byte)
-    check-accepts k byte h b = λ s reads. (
+    pub check-accepts : (k : Kinds) (byte : ℕ) → said ≡ Ok k → byte ≡ packed_of k → EnteredBy q b text w v (Ok (record { root = root; set = byte }))
+    check-accepts k byte h packed = λ s reads. (
       record { text = text; tree = tree.0; kinds = k },
       judged-as s reads ∙ ap (λ a. by_kinds (checker.answer_of a) text tree.0) h,
       record {
         own = refl;
         rooted = tree.2;
         small = root-small;
-        set = b;
-        beside = beside-q ∙ resolved-alike (number_of (scope_of q) head names) (number_in (scope_of q) s) (reads.numbers (scope_of q)) text (slots_after w text);
+        set = packed;
+        beside = beside-q ∙ resolved-alike (number_of (scope_of q) b.head.now b.names.now) (number_in (scope_of q) s) (reads.numbers (scope_of q)) text (slots_after w text);
       },
     )
 
 -- ---- a field
 
-module _ (q : Purpose) (p : Part) (head names plan line w : List ℕ) (room : length w ≡ length line) (order : p.start ≤ p.end) (inside : p.end ≤ length line) (u : List ℕ) (r : Entered)
-    (by : EnteredBy q head names plan (take (p.end - p.start) (drop p.start line)) (take (p.end - p.start) (drop p.start w)) u r) where
-  pub field-refused : (x : Refusal) → r ≡ entered.Refused x → (v : List ℕ) → FieldBy q p head names plan line w v (field_of.Refused x)
+module _ (q : Purpose) (p : Part) (b : Before) (line w : List ℕ) (order : p.start ≤ p.end) (inside : p.end ≤ length line) (u : List ℕ) (r : Result Entered Refusal)
+    (by : EnteredBy q b (take (p.end - p.start) (drop p.start line)) (take (p.end - p.start) (drop p.start w)) u r) where
+  pub field-refused : (x : Refusal) → r ≡ Err x → (v : List ℕ) → FieldBy q p b line w v (Err x)
   field-refused x e v =
-      λ i lies s reads.
-      subst (λ (t : List ℕ). judged_for q s t ≡ refused x) (field-text line i p lies) (subst (EnteredBy q head names plan _ _ u) e by s reads)
+      λ i lies s says.
+      subst (λ (t : List ℕ). judged_for q s t ≡ refused x) (field-text line i p lies) (subst (EnteredBy q b _ _ u) e by s says)
 
-  pub field-accepted : (root byte : ℕ) → r ≡ entered.Accepted root byte → FieldBy q p head names plan line w (put_back w p.start p.end u) (field_of.Accepted (record { text = p; root = root; set = byte }))
+  pub field-accepted : (y : Entered) → r ≡ Ok y → FieldBy q p b line w (put_back w p.start p.end u) (Ok (record { text = p; root = y.root; set = y.set }))
   unfolding laid
-  field-accepted root byte e =
-      λ i lies s reads.
-      let x = subst (EnteredBy q head names plan _ _ u) e by s reads in
+  field-accepted y e =
+      λ i lies s says.
+      let x = subst (EnteredBy q b _ _ u) e by s says in
       let own : x.0.text ≡ field line i = x.2.own ∙ field-text line i p lies in
       let size : length x.0.text ≡ p.end - p.start = ap length (own ∙ sym lies.is) ∙ length-slice p.start p.end line inside in
       let to : p.end ≡ p.start + length x.0.text = omega (arith, size, order) in

@@ -1,6 +1,7 @@
 -- The item of a line: what a return of its word's function says.
+use Rattle.std.specs.Prelude.{Option, Some, None, Result, Ok, Err}
 use mathlib.Core.Path.{◌≡◌, refl, sym, ◌∙◌, ap, subst}
-use mathlib.Core.Bool.{Bool, true, false, false≢true}
+use mathlib.Core.Bool.{Bool, true, false, cond}
 use mathlib.Core.List.{List, map}
 use Prim.Native.Nat.{ℕ, ◌-◌, ◌<◌}
 use native.Mathlib.Omega.{arith}
@@ -8,6 +9,8 @@ use borrow.Author.Tests.{eq-eqb, ne_eqb}
 use lib.ListN.{length, take, drop}
 use lib.Seq.{slice}
 use Rattle.lexer.specs.Refusal.{refused, refusal_at}
+use Rattle.lexer.specs.declared.refusal.Refusal.{Refusal}
+use Rattle.lexer.specs.declared.refusal.Reason.TheVariants as reason
 use Rattle.lexer.proofs.Law.Spelling.{slice_is}
 use Rattle.kind.specs.declared.kind.Kind.{Kind}
 use Rattle.checker.specs.Property.{declared, property_kinds, packed_of}
@@ -15,17 +18,15 @@ use Rattle.text.specs.Parts.{fields, field, field_start, part_at, end_from}
 use Rattle.text.specs.Name.{is_name}
 use Rattle.text.specs.Word.{line_of, type_of, flags_of}
 use Rattle.text.specs.declared.part.Part.{Part}
-use Rattle.text.specs.declared.word.TypeName.{TypeName}
-use Rattle.text.specs.declared.word.TypeName.TheVariants as type
 use Rattle.text.specs.declared.word.Flags.{Flags}
-use Rattle.text.specs.declared.word.Flags.TheVariants as flags
 use Rattle.text.specs.declared.word.Line.{Line}
 use Rattle.text.specs.declared.word.Line.TheVariants as word
 use Rattle.text.proofs.Law.Parts.{from_first, here, Lies, lies}
 use Rattle.style.specs.Style.{Style, admits, admits_to, name_of, define_name}
-use Rattle.style.specs.Item.{is_new, on_flags, on_type, property_item, define_item, eight_at, item_by, item_of}
+use Rattle.style.specs.Item.{is_new, on_flags, on_type, property_item, define_item, eight_at, item_by, on_word, item_of}
 use Rattle.style.specs.Holds.{Counted}
-use Rattle.style.specs.Inner.{is_new_property, is_new_define, Reads, admits_by, eight, FieldLies, ItemIs, WordBy, FlagsBy, PropertyBy, DefineBy, single_item, SingleBy, ConditionBy, ItemBy}
+use Rattle.style.specs.Inner.{is_new_property, is_new_define, Says, admits_by, eight, FieldLies, ItemIs, WordBy, FlagsBy, SingleBy, ItemBy}
+use Rattle.style.specs.declared.item.Before.{Before}
 use Rattle.style.specs.declared.item.Item.{Item}
 use Rattle.style.specs.declared.item.Item.TheVariants as read
 use Rattle.style.proofs.Law.Ladder.{taken, passed, both}
@@ -41,21 +42,13 @@ field-lies line i there p is =
 pub field-text : (line : List ℕ) (i : ℕ) (p : Part) → FieldLies line i p → take (p.end - p.start) (drop p.start line) ≡ field line i
 field-text line i p l = sym (slice_is p.start p.end line) ∙ l.is
 
-eight-starts : (line : List ℕ) (i : ℕ) (p : Part) → FieldLies line i p → eight_at (field_start line i) ≡ refused (refusal_at 8 p.start)
+eight-starts : (line : List ℕ) (i : ℕ) (p : Part) → FieldLies line i p → eight_at (field_start line i) ≡ refused (refusal_at reason.Line p.start)
 eight-starts line i p l = ap eight_at (sym l.begins)
-
--- a line that is refused
-abbrev none : (l : Line) (Such : Style → Type 0) (line : List ℕ) (p : ℕ) → ((s : Style) → Such s → item_by l s line ≡ eight_at p) → WordBy l Such line (eight p)
-none l Such line p h = record { of = tt; lies = tt; is = h }
-
--- the code answers it by a call
-pub word-refused : (l : Line) (Such : Style → Type 0) (line : List ℕ) (p : ℕ) (r : Item) → r ≡ eight p → ((s : Style) → Such s → item_by l s line ≡ eight_at p) → WordBy l Such line r
-word-refused l Such line p r e h = subst (WordBy l Such line) (sym e) (none l Such line p h)
 
 -- ---- `prop`
 
 -- its flags
-module _ (line : List ℕ) (name : Part) (t : Kind) (four : length (fields line) ≡ 4) (p : Part) (is : p ≡ part_at 9 line 3) (f : Flags)
+module _ (line : List ℕ) (name : Part) (t : Kind) (four : length (fields line) ≡ 4) (p : Part) (is : p ≡ part_at 9 line 3) (f : Option Flags)
     (read_as : f ≡ flags_of (take (p.end - p.start) (drop p.start line))) where
   there : FieldLies line 3 p
   there = field-lies line 3 (omega arith) p is
@@ -63,153 +56,168 @@ module _ (line : List ℕ) (name : Part) (t : Kind) (four : length (fields line)
   flags-are : flags_of (field line 3) ≡ f
   flags-are = sym (read_as ∙ ap flags_of (field-text line 3 p there))
 
-  pub flags-unknown : f ≡ flags.Unknown → (r : Item) → r ≡ eight p.start → FlagsBy line name t r
+  pub flags-unknown : f ≡ None → (r : Refusal) → r ≡ eight p.start → FlagsBy line name t (Err r)
   flags-unknown e r q =
-      subst (FlagsBy line name t) (sym q)
-      (tt, λ l. tt, λ ok. ap (λ f. on_flags f (field_start line 3) (field line 1) t) (flags-are ∙ e) ∙ eight-starts line 3 p there)
+      ap (λ f. on_flags f (field_start line 3) (field line 1) t) (flags-are ∙ e) ∙ eight-starts line 3 p there ∙ ap refused (sym q)
 
-  pub flags-known : (a n : Bool) (byte : ℕ) → f ≡ flags.Known a n → byte ≡ packed_of (property_kinds (declared t a n)) → FlagsBy line name t (read.Property name byte)
-  flags-known a n byte e b = (
+  pub flags-known : (x : Flags) (byte : ℕ) → f ≡ Some x → byte ≡ packed_of (property_kinds (declared t x.absent x.null)) → FlagsBy line name t (Ok (read.Property name byte))
+  flags-known x byte e b = (
     refl,
     λ l. l,
-    λ ok. (record { name = field line 1; property = declared t a n }, ap (λ f. on_flags f (field_start line 3) (field line 1) t) (flags-are ∙ e), refl, ok, b),
+    λ ok.
+        (record { name = field line 1; property = declared t x.absent x.null }, ap (λ f. on_flags f (field_start line 3) (field line 1) t) (flags-are ∙ e), refl, ok, b),
   )
 
-module _ (head names line : List ℕ) where
-  pub property-count : (length (fields line) ≡ 4 → ⊥) → (r : Item) → r ≡ eight (length line) → PropertyBy head names line r
+module _ (b : Before) (line : List ℕ) where
+  pub property-count : (length (fields line) ≡ 4 → ⊥) → (r : Refusal) → r ≡ eight (length line) → WordBy word.Prop b line (Err r)
   unfolding property_item
-  property-count h r q = word-refused word.Prop _ line (length line) r q (λ s reads. passed _ (ne_eqb _ _ h) refl)
+  property-count h r q = λ s says. passed _ (ne_eqb _ _ h) (ap refused (sym q))
 
   module _ (four : length (fields line) ≡ 4) (p : Part) (is : p ≡ part_at 9 line 1) (new : Bool)
-      (asked : new ≡ is_new_property head names (take (p.end - p.start) (drop p.start line))) where
+      (asked : new ≡ is_new_property b.head.now b.names.now (take (p.end - p.start) (drop p.start line))) where
     name-lies : FieldLies line 1 p
     name-lies = field-lies line 1 (omega arith) p is
 
-    name_new : (s : Style) → (plan : List ℕ) × Reads head names plan s → is_new (map name_of s.properties) (field line 1) ≡ new
-    name_new s reads = sym (asked ∙ ap (is_new_property head names) (field-text line 1 p name-lies) ∙ reads.1.new-property (field line 1))
+    name_new : (s : Style) → Says b s → is_new (map name_of s.properties) (field line 1) ≡ new
+    name_new s says = sym (asked ∙ ap (is_new_property b.head.now b.names.now) (field-text line 1 p name-lies) ∙ says.new-property (field line 1))
 
-    pub property-name : new ≡ false → (r : Item) → r ≡ eight p.start → PropertyBy head names line r
+    pub property-name : new ≡ false → (r : Refusal) → r ≡ eight p.start → WordBy word.Prop b line (Err r)
     unfolding property_item
     property-name e r q =
-        word-refused word.Prop _ line p.start r q
-        (λ s reads. taken _ (eq-eqb _ _ four) (passed _ (name_new s reads ∙ e) (eight-starts line 1 p name-lies)))
+        λ s says. taken _ (eq-eqb _ _ four) (passed _ (name_new s says ∙ e) (eight-starts line 1 p name-lies)) ∙ ap refused (sym q)
 
-    module _ (fresh : new ≡ true) (q : Part) (is-q : q ≡ part_at 9 line 2) (f : TypeName) (read_as : f ≡ type_of (take (q.end - q.start) (drop q.start line))) where
+    module _ (fresh : new ≡ true) (q : Part) (is-q : q ≡ part_at 9 line 2) (f : Option Kind) (read_as : f ≡ type_of (take (q.end - q.start) (drop q.start line))) where
       type-lies : FieldLies line 2 q
       type-lies = field-lies line 2 (omega arith) q is-q
 
       type-is : type_of (field line 2) ≡ f
       type-is = sym (read_as ∙ ap type_of (field-text line 2 q type-lies))
 
-      on-type : (s : Style) → (plan : List ℕ) × Reads head names plan s →
+      on-type : (s : Style) → Says b s →
           item_by word.Prop s line ≡ on_type f (field_start line 2) (λ t. on_flags (flags_of (field line 3)) (field_start line 3) (field line 1) t)
       unfolding property_item
-      on-type s reads =
+      on-type s says =
           taken _ (eq-eqb _ _ four)
-          (taken _ (name_new s reads ∙ fresh) (ap (λ f. on_type f (field_start line 2) (λ t. on_flags (flags_of (field line 3)) (field_start line 3) (field line 1) t)) type-is))
+          (taken _ (name_new s says ∙ fresh) (ap (λ f. on_type f (field_start line 2) (λ t. on_flags (flags_of (field line 3)) (field_start line 3) (field line 1) t)) type-is))
 
-      pub property-type : f ≡ type.Unknown → (r : Item) → r ≡ eight q.start → PropertyBy head names line r
+      pub property-type : f ≡ None → (r : Refusal) → r ≡ eight q.start → WordBy word.Prop b line (Err r)
       property-type e r i =
-          word-refused word.Prop _ line q.start r i
-          (λ s reads.
-          on-type s reads
+          λ s says.
+          on-type s says
           ∙ ap (λ f. on_type f (field_start line 2) (λ t. on_flags (flags_of (field line 3)) (field_start line 3) (field line 1) t)) e
-          ∙ eight-starts line 2 q type-lies)
+          ∙ eight-starts line 2 q type-lies
+          ∙ ap refused (sym i)
 
-      pub property-flags : (t : Kind) (r : Item) → f ≡ type.Known t → FlagsBy line p t r → PropertyBy head names line r
-      property-flags t r e by = record {
-        of = by.0;
-        lies = by.1 name-lies;
-        is = λ s reads.
-            subst (ItemIs line r)
-            (sym (on-type s reads ∙ ap (λ f. on_type f (field_start line 2) (λ t. on_flags (flags_of (field line 3)) (field_start line 3) (field line 1) t)) e))
-            (by.2 (both (is_name (field line 1)) _ (name_new s reads ∙ fresh)).0);
-      }
+      pub property-flags : (t : Kind) → f ≡ Some t → (r : Result Item Refusal) → FlagsBy line p t r → WordBy word.Prop b line r
+      property-flags t e r by = go r by
+        where
+          typed : (s : Style) → Says b s → item_by word.Prop s line ≡ on_flags (flags_of (field line 3)) (field_start line 3) (field line 1) t
+          typed s says = on-type s says ∙ ap (λ f. on_type f (field_start line 2) (λ t. on_flags (flags_of (field line 3)) (field_start line 3) (field line 1) t)) e
 
--- ---- `define`
+          go : (r : Result Item Refusal) → FlagsBy line p t r → WordBy word.Prop b line r
+          go (Err x) by = λ s says. typed s says ∙ by
+          go (Ok i) by = (
+            by.0,
+            by.1 name-lies,
+            λ s says. subst (ItemIs line i) (sym (typed s says)) (by.2 (both (is_name (field line 1)) _ (name_new s says ∙ fresh)).0),
+          )
 
-module _ (head names line : List ℕ) where
-  pub define-count : (length (fields line) ≡ 3 → ⊥) → (r : Item) → r ≡ eight (length line) → DefineBy head names line r
+  -- ---- `define`
+
+  pub define-count : (length (fields line) ≡ 3 → ⊥) → (r : Refusal) → r ≡ eight (length line) → WordBy word.Define b line (Err r)
   unfolding define_item
-  define-count h r q = word-refused word.Define _ line (length line) r q (λ s reads. passed _ (ne_eqb _ _ h) refl)
+  define-count h r q = λ s says. passed _ (ne_eqb _ _ h) (ap refused (sym q))
 
   module _ (three : length (fields line) ≡ 3) (p : Part) (is : p ≡ part_at 9 line 1) (new : Bool)
-      (asked : new ≡ is_new_define head names (take (p.end - p.start) (drop p.start line))) where
+      (asked : new ≡ is_new_define b.head.now b.names.now (take (p.end - p.start) (drop p.start line))) where
     define-lies : FieldLies line 1 p
     define-lies = field-lies line 1 (omega arith) p is
 
-    define-new : (s : Style) → (plan : List ℕ) × Reads head names plan s → is_new (map define_name s.defines) (field line 1) ≡ new
-    define-new s reads = sym (asked ∙ ap (is_new_define head names) (field-text line 1 p define-lies) ∙ reads.1.new-define (field line 1))
+    define-new : (s : Style) → Says b s → is_new (map define_name s.defines) (field line 1) ≡ new
+    define-new s says = sym (asked ∙ ap (is_new_define b.head.now b.names.now) (field-text line 1 p define-lies) ∙ says.new-define (field line 1))
 
-    pub define-name : new ≡ false → (r : Item) → r ≡ eight p.start → DefineBy head names line r
+    pub define-name : new ≡ false → (r : Refusal) → r ≡ eight p.start → WordBy word.Define b line (Err r)
     unfolding define_item
     define-name e r q =
-        word-refused word.Define _ line p.start r q
-        (λ s reads. taken _ (eq-eqb _ _ three) (passed _ (define-new s reads ∙ e) (eight-starts line 1 p define-lies)))
+        λ s says. taken _ (eq-eqb _ _ three) (passed _ (define-new s says ∙ e) (eight-starts line 1 p define-lies)) ∙ ap refused (sym q)
 
-    pub define-is : new ≡ true → (q : Part) → q ≡ part_at 9 line 2 → DefineBy head names line (read.Define p q)
+    pub define-is : new ≡ true → (q : Part) → q ≡ part_at 9 line 2 → WordBy word.Define b line (Ok (read.Define p q))
     unfolding define_item
-    define-is fresh q is-q = record {
-      of = refl;
-      lies = (define-lies, field-lies line 2 (omega arith) q is-q);
-      is = λ s reads. (
-        taken _ (eq-eqb _ _ three) (taken _ (define-new s reads ∙ fresh) refl),
-        (both (is_name (field line 1)) _ (define-new s reads ∙ fresh)).0,
-      );
-    }
+    define-is fresh q is-q = (
+      refl,
+      (define-lies, field-lies line 2 (omega arith) q is-q),
+      λ s says. (
+        taken _ (eq-eqb _ _ three) (taken _ (define-new s says ∙ fresh) refl),
+        (both (is_name (field line 1)) _ (define-new s says ∙ fresh)).0,
+      ),
+    )
+
+  -- ---- `cond`
+
+  pub condition-count : (length (fields line) ≡ 3 → ⊥) → (r : Refusal) → r ≡ eight (length line) → WordBy word.Cond b line (Err r)
+  condition-count h r q = λ s says. passed _ (ne_eqb _ _ h) (ap refused (sym q))
+
+  pub condition-is : length (fields line) ≡ 3 → (p q : Part) → p ≡ part_at 9 line 1 → q ≡ part_at 9 line 2 → WordBy word.Cond b line (Ok (read.Condition p q))
+  condition-is three p q is is-q = (
+    refl,
+    (field-lies line 1 (omega arith) p is, field-lies line 2 (omega arith) q is-q),
+    λ s says. taken _ (eq-eqb _ _ three) refl,
+  )
 
 -- ---- `show` and `color`
 
-pub single-count : (c : Bool) (line : List ℕ) → (length (fields line) ≡ 2 → ⊥) → (r : Item) → r ≡ eight (length line) → SingleBy c line r
-single-count true line h r q = word-refused word.Color _ line (length line) r q (λ s u. passed _ (ne_eqb _ _ h) refl)
-single-count false line h r q = word-refused word.Show _ line (length line) r q (λ s u. passed _ (ne_eqb _ _ h) refl)
+pub single-count : (line : List ℕ) → (length (fields line) ≡ 2 → ⊥) → (r : Refusal) → r ≡ eight (length line) → SingleBy line (Err r)
+single-count line h r q = λ j. passed _ (ne_eqb _ _ h) (ap refused (sym q))
 
-pub single-is : (c : Bool) (line : List ℕ) → length (fields line) ≡ 2 → (p : Part) → p ≡ part_at 9 line 1 → (r : Item) → r ≡ single_item c p → SingleBy c line r
-single-is c line two p is r e = subst (SingleBy c line) (sym e) (go c)
-  where
-    go : (c : Bool) → SingleBy c line (single_item c p)
-    go true = record { of = refl; lies = field-lies line 1 (omega arith) p is; is = λ s u. taken _ (eq-eqb _ _ two) refl }
-    go false = record { of = refl; lies = field-lies line 1 (omega arith) p is; is = λ s u. taken _ (eq-eqb _ _ two) refl }
-
--- ---- `cond`
-
-module _ (line : List ℕ) where
-  pub condition-count : (length (fields line) ≡ 3 → ⊥) → (r : Item) → r ≡ eight (length line) → ConditionBy line r
-  condition-count h r q = word-refused word.Cond _ line (length line) r q (λ s u. passed _ (ne_eqb _ _ h) refl)
-
-  pub condition-is : length (fields line) ≡ 3 → (p q : Part) → p ≡ part_at 9 line 1 → q ≡ part_at 9 line 2 → ConditionBy line (read.Condition p q)
-  condition-is three p q is is-q = record {
-    of = refl;
-    lies = (field-lies line 1 (omega arith) p is, field-lies line 2 (omega arith) q is-q);
-    is = λ s u. taken _ (eq-eqb _ _ three) refl;
-  }
+pub single-is : (line : List ℕ) → length (fields line) ≡ 2 → (p : Part) → p ≡ part_at 9 line 1 → SingleBy line (Ok p)
+single-is line two p is = (field-lies line 1 (omega arith) p is, λ j. taken _ (eq-eqb _ _ two) refl)
 
 -- ---- any line, by its word
 
-module _ (head names plan line : List ℕ) (end : ℕ) (is : end ≡ end_from 9 line 0) (l : Line) (read_as : l ≡ line_of (take (end - 0) (drop 0 line))) (a : Bool)
-    (asked : a ≡ admits_by plan l) where
-  word-is : line_of (field line 0) ≡ l
+module _ (b : Before) (line : List ℕ) (end : ℕ) (is : end ≡ end_from 9 line 0) (o : Option Line) (read_as : o ≡ line_of (take end line)) where
+  word-is : line_of (field line 0) ≡ o
   word-is =
-      sym (read_as ∙ ap line_of (sym (slice_is 0 end line) ∙ ap (λ (n : ℕ). slice 0 n line) is ∙ sym (here 9 line 0 0 (from_first 9 line))))
+      sym (read_as ∙ ap line_of (ap (λ (n : ℕ). slice 0 n line) is ∙ sym (here 9 line 0 0 (from_first 9 line))))
 
-  admits-is : (s : Style) → Counted plan s → admits_to s (line_of (field line 0)) ≡ a
-  admits-is s n =
-      sym
-      (asked
-      ∙ (λ i. admits (sym word-is i) (n.properties i) (n.defines i) (n.shows i) (n.colours i) (n.conditions i)))
-
-  pub item_out : a ≡ false → (r : Item) → r ≡ eight 0 → ItemBy head names plan line r
+  -- no word of a line
+  pub item-none : o ≡ None → (r : Refusal) → r ≡ eight 0 → ItemBy b line (Err r)
   unfolding item_of
-  item_out e r q = subst (ItemBy head names plan line) (sym q) (record {
-    admitted = λ f. absurd (false≢true (sym f));
-    lies = tt;
-    is = λ s n reads. passed _ (admits-is s n ∙ e) refl;
-  })
+  item-none e r q = λ s n says. ap (λ o. on_word o s line) (word-is ∙ e) ∙ ap refused (sym q)
 
-  pub item-as : a ≡ true → (w : Line) → l ≡ w → (r : Item) (Such : Style → Type 0) → WordBy w Such line r → ((s : Style) → Reads head names plan s → Such s) → ItemBy head names plan line r
-  unfolding item_of
-  item-as e w h r Such by such = record {
-    admitted = λ f. (w, by.of, ap (admits_by plan) (sym h) ∙ sym asked ∙ e);
-    lies = by.lies;
-    is = λ s n reads. subst (ItemIs line r) (sym (taken _ (admits-is s n ∙ e) (ap (λ l. item_by l s line) (word-is ∙ h)))) (by.is s (such s reads));
-  }
+  module _ (l : Line) (some : o ≡ Some l) (a : Bool) (asked : a ≡ admits_by b.plan.now l) where
+    admits-is : (s : Style) → Counted b.plan.now s → admits_to s l ≡ a
+    admits-is s n = sym (asked ∙ (λ i. admits l (n.properties i) (n.defines i) (n.shows i) (n.colours i) (n.conditions i)))
+
+    of-word : (s : Style) → item_of s line ≡ cond (admits_to s l) (item_by l s line) (eight_at 0)
+    unfolding item_of
+    of-word s = ap (λ o. on_word o s line) (word-is ∙ some)
+
+    pub item_out : a ≡ false → (r : Refusal) → r ≡ eight 0 → ItemBy b line (Err r)
+    item_out e r q = λ s n says. of-word s ∙ passed _ (admits-is s n ∙ e) (ap refused (sym q))
+
+    module _ (fit : a ≡ true) where
+      by-word : (s : Style) → Counted b.plan.now s → item_of s line ≡ item_by l s line
+      by-word s n = of-word s ∙ taken _ (admits-is s n ∙ fit) refl
+
+      pub item-as : (w : Line) → l ≡ w → (r : Result Item Refusal) → WordBy w b line r → ItemBy b line r
+      item-as w h (Err x) by = λ s n says. by-word s n ∙ ap (λ l. item_by l s line) h ∙ by s says
+      item-as w h (Ok i) by = (
+        ap (admits_by b.plan.now) (by.0 ∙ sym h) ∙ sym asked ∙ fit,
+        by.1,
+        λ s n says. subst (ItemIs line i) (sym (by-word s n ∙ ap (λ l. item_by l s line) h)) (by.2 s says),
+      )
+
+      pub item-feature : l ≡ word.Feat → (r : Refusal) → r ≡ eight 0 → ItemBy b line (Err r)
+      item-feature h r q = item-as word.Feat h (Err r) (λ s says. ap refused (sym q))
+
+      pub show-out : l ≡ word.Show → (r : Refusal) → SingleBy line (Err r) → ItemBy b line (Err r)
+      show-out h r by = item-as word.Show h (Err r) (λ s says. by _)
+
+      pub colour-out : l ≡ word.Color → (r : Refusal) → SingleBy line (Err r) → ItemBy b line (Err r)
+      colour-out h r by = item-as word.Color h (Err r) (λ s says. by _)
+
+      pub item-show : l ≡ word.Show → (p : Part) → SingleBy line (Ok p) → ItemBy b line (Ok (read.Show p))
+      item-show h p by = item-as word.Show h (Ok (read.Show p)) (refl, by.0, λ s says. by.1 _)
+
+      pub item-colour : l ≡ word.Color → (p : Part) → SingleBy line (Ok p) → ItemBy b line (Ok (read.Colour p))
+      item-colour h p by = item-as word.Color h (Ok (read.Colour p)) (refl, by.0, λ s says. by.1 _)

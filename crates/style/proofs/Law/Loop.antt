@@ -1,13 +1,14 @@
 -- The lines of a head in turn.
+use Rattle.std.specs.Prelude.{Ok, Err}
 use mathlib.Core.Path.{◌≡◌, refl, sym, ◌∙◌, ap, ap₂, subst}
-use mathlib.Core.Bool.{Bool, true, false, false≢true, true≢false}
+use mathlib.Core.Bool.{true, false≢true}
 use mathlib.Core.List.{List, [], ◌∷◌}
 use Prim.Native.Nat.{ℕ, suc, ◌+◌, ◌-◌, ◌*◌, ◌<◌, ◌≤◌}
 use native.Mathlib.Numerals.{add-one}
 use native.Mathlib.Omega.{arith}
 use lib.ListN.{length, get_or, set, take, drop, replicate, get_or-replicate, length-set, drop_of_length-le}
 use lib.Seq.{slice, length-slice, get_or-set_same, get_or-set_other}
-use Rattle.lexer.specs.Refusal.{Judged, refused, fine}
+use Rattle.lexer.specs.Refusal.{refused, fine}
 use Rattle.lexer.specs.declared.refusal.Refusal.{Refusal}
 use Rattle.lexer.proofs.Law.Spelling.{slice_is}
 use Rattle.plan.specs.Layout.{start_of, end_of}
@@ -27,10 +28,7 @@ use Rattle.style.specs.Item.{line_said}
 use Rattle.style.specs.Head.{head_from, head_of}
 use Rattle.style.specs.Compile.{with_row, planned, fresh_plan, roomed, onward, lines_make, plan_of, room_of}
 use Rattle.style.specs.Holds.{Each, Counted}
-use Rattle.style.specs.Inner.{admits_by, FieldLies, Lain, NameIs, EntryIs, AddedBy, is_refused, refusal_in, ReadBy, name_with, row_with, names_with, plan_with, SmallName, Small, Fits, LinesBy, SettledBy}
-use Rattle.style.specs.declared.check.LineRefusal.{LineRefusal}
-use Rattle.style.specs.declared.check.Checked.{Checked}
-use Rattle.style.specs.declared.check.Checked.TheVariants as checked
+use Rattle.style.specs.Inner.{Reads, admits_by, FieldLies, Lain, NameIs, EntryIs, entry_word, name_with, row_with, names_with, plan_with, SmallName, Small, Fits, LinesBy}
 use Rattle.style.specs.declared.entry.Expression as code
 use Rattle.style.specs.declared.entry.Entry as entries
 use Rattle.style.specs.declared.entry.Entry.TheVariants as entry
@@ -171,13 +169,9 @@ module _ (head room : List ℕ) (at end : ℕ) (order : at ≤ end) (inside : en
     admits-in : (l : Line) → admits_by plan l ≡ true → admits_to s l ≡ true
     admits-in l ok = sym (λ i. admits l (counts.properties i) (counts.defines i) (counts.shows i) (counts.colours i) (counts.conditions i)) ∙ ok
 
-    admitted-as : (l m : Line) → l ≡ m → admits_by plan l ≡ true → admits_to s m ≡ true
-    admitted-as l m e ok = admits-in m (ap (admits_by plan) (sym e) ∙ ok)
-
-    entering : (r : entries.Entry) → is_refused r ≡ false → (l : Line) × AddedBy l r × (admits_by plan l ≡ true) → EntryIs s line w u r (line_said s line) → Entering r
-    entering (entry.Refused x) f a is = absurd (true≢false f)
-    entering (entry.Property name k) f a is =
-        let ok = admitted-as a.0 word.Prop a.1 a.2 in
+    entering : (r : entries.Entry) → admits_by plan (entry_word r) ≡ true → EntryIs s line w u r (line_said s line) → Entering r
+    entering (entry.Property name k) a is =
+        let ok = admits-in word.Prop a in
         let c = counts.properties in
         record {
           e = property is.0;
@@ -187,8 +181,8 @@ module _ (head room : List ℕ) (at end : ℕ) (order : at ≤ end) (inside : en
           rooming = ap (put_back room at end) is.4 ∙ put_same room at end;
           naming = name-property name is.0 ok is.2;
         }
-    entering (entry.Define name x) f a is =
-        let ok = admitted-as a.0 word.Define a.1 a.2 in
+    entering (entry.Define name x) a is =
+        let ok = admits-in word.Define a in
         let c = counts.defines in
         let e = is.0.expression in
         let lain = is.3 in
@@ -202,8 +196,8 @@ module _ (head room : List ℕ) (at end : ℕ) (order : at ≤ end) (inside : en
           rooming = ap (put_back room at end) is.4 ∙ laid_beside room at end order wide (number_in scope.Define s) (field_start line 2) e (within 2 x e lain);
           naming = name-define name is.0 ok is.2;
         }
-    entering (entry.Show x) f a is =
-        let ok = admitted-as a.0 word.Show a.1 a.2 in
+    entering (entry.Show x) a is =
+        let ok = admits-in word.Show a in
         let c = counts.shows in
         record {
           e = show is.0;
@@ -213,8 +207,8 @@ module _ (head room : List ℕ) (at end : ℕ) (order : at ≤ end) (inside : en
           rooming = ap (put_back room at end) is.3 ∙ laid_beside room at end order wide (number_in scope.Style s) (field_start line 1) is.0 (within 1 x is.0 is.2);
           naming = same_names (with s (show is.0)) refl refl;
         }
-    entering (entry.Colour x) f a is =
-        let ok = admitted-as a.0 word.Color a.1 a.2 in
+    entering (entry.Colour x) a is =
+        let ok = admits-in word.Color a in
         let c = counts.colours in
         record {
           e = colour is.0;
@@ -224,8 +218,8 @@ module _ (head room : List ℕ) (at end : ℕ) (order : at ≤ end) (inside : en
           rooming = ap (put_back room at end) is.3 ∙ laid_beside room at end order wide (number_in scope.Style s) (field_start line 1) is.0 (within 1 x is.0 is.2);
           naming = same_names (with s (colour is.0)) refl refl;
         }
-    entering (entry.Condition x y) f a is =
-        let ok = admitted-as a.0 word.Cond a.1 a.2 in
+    entering (entry.Condition x y) a is =
+        let ok = admits-in word.Cond a in
         let c = counts.conditions in
         let t = is.0.test in
         let g = is.0.colour in
@@ -260,18 +254,17 @@ module _ (head room : List ℕ) (at end : ℕ) (order : at ≤ end) (inside : en
         l.small,
       )
 
-      fits : (r : entries.Entry) → is_refused r ≡ false → (l : Line) × AddedBy l r × (admits_by plan l ≡ true) → EntryIs s line w u r (line_said s line) → Fits plan at r
-      fits (entry.Refused x) f a is = tt
-      fits (entry.Property name k) f a is = (omega (arith, counts.properties, (property-first s (admitted-as a.0 word.Prop a.1 a.2)).0), small-name name 1 is.2.0)
-      fits (entry.Define name x) f a is = (
-        omega (arith, counts.defines, (define-next s (admitted-as a.0 word.Define a.1 a.2)).0),
+      fits : (r : entries.Entry) → admits_by plan (entry_word r) ≡ true → EntryIs s line w u r (line_said s line) → Fits plan at r
+      fits (entry.Property name k) a is = (omega (arith, counts.properties, (property-first s (admits-in word.Prop a)).0), small-name name 1 is.2.0)
+      fits (entry.Define name x) a is = (
+        omega (arith, counts.defines, (define-next s (admits-in word.Define a)).0),
         small-name name 1 is.2.0,
         small_row 2 x is.0.expression is.3,
       )
-      fits (entry.Show x) f a is = (omega (arith, counts.shows, show-once s (admitted-as a.0 word.Show a.1 a.2)), small_row 1 x is.0 is.2)
-      fits (entry.Colour x) f a is = (omega (arith, counts.colours, colour-once s (admitted-as a.0 word.Color a.1 a.2)), small_row 1 x is.0 is.2)
-      fits (entry.Condition x y) f a is = (
-        omega (arith, counts.conditions, condition-few s (admitted-as a.0 word.Cond a.1 a.2)),
+      fits (entry.Show x) a is = (omega (arith, counts.shows, show-once s (admits-in word.Show a)), small_row 1 x is.0 is.2)
+      fits (entry.Colour x) a is = (omega (arith, counts.colours, colour-once s (admits-in word.Color a)), small_row 1 x is.0 is.2)
+      fits (entry.Condition x y) a is = (
+        omega (arith, counts.conditions, condition-few s (admits-in word.Cond a)),
         small_row 1 x is.0.test is.2,
         small_row 2 y is.0.colour is.3,
       )
@@ -306,16 +299,7 @@ at_first head room plan e wide =
 
 -- ---- one turn
 
-refused-is : (s : Style) (line w v : List ℕ) (r : entries.Entry) (j : Judged Entry) → is_refused r ≡ true → EntryIs s line w v r j → j ≡ refused (refusal_in r)
-refused-is s _ w v (entry.Refused x) j e is = is
-refused-is s _ w v (entry.Property name k) j e is = absurd (false≢true e)
-refused-is s _ w v (entry.Define name x) j e is = absurd (false≢true e)
-refused-is s _ w v (entry.Show x) j e is = absurd (false≢true e)
-refused-is s _ w v (entry.Colour x) j e is = absurd (false≢true e)
-refused-is s _ w v (entry.Condition x y) j e is = absurd (false≢true e)
-
-module _ (head room₀ room names plan : List ℕ) (at n : ℕ) (f : Sofar head room₀ room names plan at n) (short : length head ≤ 32768) (more : at < length head) (end : ℕ) (is : end ≡ end_from 10 head at) (u : List ℕ)
-    (r : entries.Entry) (read : ReadBy head names plan (take (end - at) (drop at head)) (take (end - at) (drop at room)) u r) where
+module _ (head room₀ room names plan : List ℕ) (at n : ℕ) (f : Sofar head room₀ room names plan at n) (short : length head ≤ 32768) (more : at < length head) (end : ℕ) (is : end ≡ end_from 10 head at) where
   line-ends : end ≤ length head
   line-ends = omega (arith, is, end-within 10 head at (omega (arith, more)))
 
@@ -325,73 +309,87 @@ module _ (head room₀ room names plan : List ℕ) (at n : ℕ) (f : Sofar head 
   line-wide : end ≤ length room
   line-wide = omega (arith, f.wide, line-ends, short)
 
-  says : EntryIs f.s (slice at end head) (slice at end room) u r (line_said f.s (slice at end head))
-  says =
-      subst (λ (w : List ℕ). EntryIs f.s (slice at end head) w u r (line_said f.s (slice at end head))) (sym (slice_is at end room))
-      (subst (λ (l : List ℕ). EntryIs f.s l (take (end - at) (drop at room)) u r (line_said f.s l)) (sym (slice_is at end head))
-      (read.is f.s f.kept.counted (reads head names plan f.s f.kept.few f.named f.kept.sets)))
-
   next : lines (drop at head) ≡ slice at end head ∷ lines (drop (end + 1) head)
   next = lines_from head at more ∙ (λ i. slice at (sym is i) head ∷ lines (drop (sym is i + 1) head))
 
   here : head_of head ≡ on_line n (line_said f.s (slice at end head)) (λ e. head_from (suc n) (with f.s e) (lines (drop (end + 1) head)))
   here = f.rest ∙ ap (head_from n f.s) next
 
-  pub turn-refused : is_refused r ≡ true → head_of head ≡ refusal n (refusal_in r)
-  turn-refused e = here ∙ ap (λ j. on_line n j (λ e. head_from (suc n) (with f.s e) (lines (drop (end + 1) head)))) (refused-is f.s _ _ u r _ e says)
+  -- as the language has the line and the room beside it
+  abbrev text : List ℕ
+  text = take (end - at) (drop at head)
 
-  module _ (kept-length : length u ≡ length (take (end - at) (drop at room))) where
+  abbrev beside : List ℕ
+  beside = take (end - at) (drop at room)
+
+  own-text : text ≡ slice at end head
+  own-text = sym (slice_is at end head)
+
+  reads-so : Reads head names plan f.s
+  reads-so = reads head names plan f.s f.kept.few f.named f.kept.sets
+
+  pub turn-refused : (x : Refusal) → ((s : Style) → Counted plan s → Reads head names plan s → line_said s text ≡ refused x) → head_of head ≡ refusal n x
+  turn-refused x read =
+      here
+      ∙ ap (λ j. on_line n j (λ e. head_from (suc n) (with f.s e) (lines (drop (end + 1) head))))
+      (ap (line_said f.s) (sym own-text) ∙ read f.s f.kept.counted reads-so)
+
+  -- the room has its length again
+  module _ (u : List ℕ) (kept-length : length u ≡ length (take (end - at) (drop at room))) where
     line-size : length u ≡ end - at
     line-size = kept-length ∙ ap length (sym (slice_is at end room)) ∙ length-slice at end room line-wide
 
     pub same-room : length (put_back room at end u) ≡ length room
     same-room = put-length room at end u line-wide line-order line-size
 
-    pub turn-fits : is_refused r ≡ false → Fits plan at r
-    turn-fits e = fits head room at end line-order line-ends line-wide u line-size names plan f.s f.kept f.named short r e (read.admitted e) says
+    -- what it adds
+    module _ (y : entries.Entry) (read : (admits_by plan (entry_word y) ≡ true) × ((s : Style) → Counted plan s → Reads head names plan s → EntryIs s text beside u y (line_said s text))) where
+      added : EntryIs f.s (slice at end head) (slice at end room) u y (line_said f.s (slice at end head))
+      added =
+          subst (λ (w : List ℕ). EntryIs f.s (slice at end head) w u y (line_said f.s (slice at end head))) (sym (slice_is at end room))
+          (subst (λ (l : List ℕ). EntryIs f.s l beside u y (line_said f.s l)) own-text (read.1 f.s f.kept.counted reads-so))
 
-    pub turn_on : (names' plan' : List ℕ) → is_refused r ≡ false → names' ≡ names_with plan at r names → plan' ≡ plan_with at r plan →
-        Sofar head room₀ (put_back room at end u) names' plan' (end + 1) (n + 1)
-    turn_on names' plan' e is-names is-plan =
-        let x = entering head room at end line-order line-ends line-wide u line-size names plan f.s f.kept f.named r e (read.admitted e) says in
-        let t = with f.s x.e in
-        let ls = lines (drop (end + 1) head) in
-        let to : at + length (slice at end head) + 1 ≡ end + 1 = omega (arith, length-slice at end head line-ends, line-order) in
-        let p : plan' ≡ planned at (slice at end head) f.s x.e plan = is-plan ∙ x.planning in
-        record {
-          s = t;
-          kept = subst (λ (p : List ℕ). Kept p t) (sym p) (kept_on f.s plan f.kept at (slice at end head) x.e x.admitted);
-          named = subst (λ (m : List ℕ). Named head m t) (sym is-names) x.naming;
-          rest = here ∙ ap (λ j. on_line n j (λ e. head_from (suc n) (with f.s e) ls)) x.said ∙ ap (λ (m : ℕ). head_from m t ls) (sym (add-one n));
-          planning =
-              f.planning
-              ∙ ap (λ (l : List (List ℕ)). lines_make planned at f.s l plan) next
-              ∙ ap (λ j. onward j plan (λ e. lines_make planned (at + length (slice at end head) + 1) (with f.s e) ls (planned at (slice at end head) f.s e plan))) x.said
-              ∙ (λ i. lines_make planned (to i) t ls (sym p i));
-          rooming =
-              f.rooming
-              ∙ ap (λ (l : List (List ℕ)). lines_make roomed at f.s l room) next
-              ∙ ap (λ j. onward j room (λ e. lines_make roomed (at + length (slice at end head) + 1) (with f.s e) ls (roomed at (slice at end head) f.s e room))) x.said
-              ∙ (λ i. lines_make roomed (to i) t ls (sym x.rooming i));
-          inside = omega (arith, line-ends);
-          small = omega (arith, f.small, line-order);
-          wide = omega (arith, f.wide, same-room);
-        }
+      pub turn-fits : Fits plan at y
+      turn-fits = fits head room at end line-order line-ends line-wide u line-size names plan f.s f.kept f.named short y read.0 added
+
+      pub turn_on : (names' plan' : List ℕ) → names' ≡ names_with plan at y names → plan' ≡ plan_with at y plan →
+          Sofar head room₀ (put_back room at end u) names' plan' (end + 1) (n + 1)
+      turn_on names' plan' is-names is-plan =
+          let x = entering head room at end line-order line-ends line-wide u line-size names plan f.s f.kept f.named y read.0 added in
+          let t = with f.s x.e in
+          let ls = lines (drop (end + 1) head) in
+          let to : at + length (slice at end head) + 1 ≡ end + 1 = omega (arith, length-slice at end head line-ends, line-order) in
+          let p : plan' ≡ planned at (slice at end head) f.s x.e plan = is-plan ∙ x.planning in
+          record {
+            s = t;
+            kept = subst (λ (p : List ℕ). Kept p t) (sym p) (kept_on f.s plan f.kept at (slice at end head) x.e x.admitted);
+            named = subst (λ (m : List ℕ). Named head m t) (sym is-names) x.naming;
+            rest = here ∙ ap (λ j. on_line n j (λ e. head_from (suc n) (with f.s e) ls)) x.said ∙ ap (λ (m : ℕ). head_from m t ls) (sym (add-one n));
+            planning =
+                f.planning
+                ∙ ap (λ (l : List (List ℕ)). lines_make planned at f.s l plan) next
+                ∙ ap (λ j. onward j plan (λ e. lines_make planned (at + length (slice at end head) + 1) (with f.s e) ls (planned at (slice at end head) f.s e plan))) x.said
+                ∙ (λ i. lines_make planned (to i) t ls (sym p i));
+            rooming =
+                f.rooming
+                ∙ ap (λ (l : List (List ℕ)). lines_make roomed at f.s l room) next
+                ∙ ap (λ j. onward j room (λ e. lines_make roomed (at + length (slice at end head) + 1) (with f.s e) ls (roomed at (slice at end head) f.s e room))) x.said
+                ∙ (λ i. lines_make roomed (to i) t ls (sym x.rooming i));
+            inside = omega (arith, line-ends);
+            small = omega (arith, f.small, line-order);
+            wide = omega (arith, f.wide, same-room);
+          }
 
 -- ---- the end
 
-abbrev is_accepted : {A : Type 0} → Answer A → Bool
-is_accepted (accepted a) = true
-is_accepted (refusal n r) = false
-
 module _ (head room : List ℕ) where
-  pub lines-refused : (plan after : List ℕ) (n : ℕ) (x y : Refusal) → head_of head ≡ refusal n x → y ≡ x → LinesBy head room plan after (checked.Refused (record { line = n; refusal = y }))
-  lines-refused plan after n x y h e = record {
-    answer = ap (refusal n) e ∙ ap (λ (a : Answer Style). on_accepted a (λ s. accepted tt)) (sym h);
-    kept = λ s g. absurd (false≢true (ap is_accepted (sym h ∙ g)));
+  pub lines-refused : (plan after : List ℕ) (n : ℕ) (x : Refusal) → head_of head ≡ refusal n x → LinesBy head room plan after (Err (record { line = n; refusal = x }))
+  lines-refused plan after n x h = record {
+    answer = ap (λ (a : Answer Style). on_accepted a (λ s. accepted tt)) (sym h);
+    kept = λ s g. absurd (cc);
   }
 
-  pub lines_end : (after names plan : List ℕ) (at n : ℕ) → Sofar head room after names plan at n → length head ≤ at → LinesBy head room plan after checked.Accepted
+  pub lines_end : (after names plan : List ℕ) (at n : ℕ) → Sofar head room after names plan at n → length head ≤ at → LinesBy head room plan after (Ok tt)
   lines_end after names plan at n f h =
       let none : lines (drop at head) ≡ [] = ap lines (drop_of_length-le head h) in
       let all : head_of head ≡ accepted f.s = f.rest ∙ ap (head_from n f.s) none in
@@ -402,12 +400,3 @@ module _ (head room : List ℕ) where
           sym (f.rooming ∙ ap (λ (l : List (List ℕ)). lines_make roomed at f.s l after) none),
         );
       }
-
--- ---- what is left of them
-
-pub settled-kept : (a : Checked) (own plan room : List ℕ) → a ≡ checked.Accepted → SettledBy a own plan room own room checked.Accepted
-settled-kept a own plan room e = subst (λ (a : Checked). SettledBy a own plan room own room checked.Accepted) (sym e) (refl, refl, refl)
-
-pub settled-cleared : (a : Checked) (own plan room room' : List ℕ) (x : LineRefusal) → a ≡ checked.Refused x → room' ≡ replicate (length room) 0 →
-    SettledBy a own plan room plan room' (checked.Refused x)
-settled-cleared a own plan room room' x e z = subst (λ (a : Checked). SettledBy a own plan room plan room' (checked.Refused x)) (sym e) (refl, refl, z)

@@ -14,7 +14,7 @@ use Rattle.syntax.specs.Grammar.{Nonterminal, expression, binary, unary, postfix
 use Rattle.syntax.specs.Grammar.{expression-binary, conditional, binary-unary, binary-lower, binary-operation, unary-postfix}
 use Rattle.syntax.specs.Grammar.{unary-operation, postfix-primary, member, index, literal, variable, bare, call, brackets, last}
 use Rattle.syntax.specs.Grammar.{next}
-use Rattle.syntax.specs.Parser.{Result, part, and_then, ask, expression_from, branches_from, level_from, tail_from, unary_from}
+use Rattle.syntax.specs.Parser.{Parse, part, and_then, ask, expression_from, branches_from, level_from, tail_from, unary_from}
 use Rattle.syntax.specs.Parser.{postfix_from, picks_from, primary_from, call_from, arguments_from}
 use Rattle.syntax.specs.declared.symbol.Symbol.{Symbol}
 use Rattle.syntax.proofs.Law.Operators.{prefix-is}
@@ -29,7 +29,7 @@ abbrev Misses : (Symbol → Bool) → List Symbol → Type 0
 Misses test [] = Unit {0}
 Misses test (x ∷ s) = test x ≡ false
 
-module _ {A : Type 0} (test : Symbol → Bool) (y : Symbol → Parser A) (n : Parser A) {a : Result (List Symbol) A} where
+module _ {A : Type 0} (test : Symbol → Bool) (y : Symbol → Parser A) (n : Parser A) {a : Parse (List Symbol) A} where
   yes : {x : Symbol} {s : List Symbol} → test x ≡ true → Gives (y x) s a → Gives (ask uncons test y n) (x ∷ s) a
   unfolding ask
   yes h i = record { gives = rw h i.gives }
@@ -143,10 +143,10 @@ pub record Takes {A : Type 0} (c : ℕ) (m : ℕ → Parser A) (a : A) (r s : Li
 
 -- m goes on from the part of the symbols s down to r as the tail t does
 record Goes {A : Type 0} (b c : ℕ) (m : ℕ → Parser A) (t : ℕ → A → Parser A) (a : A) (r s : List Symbol) : Type 0 where
-  goes : (z : Result (List Symbol) A) → ((g : ℕ) → Enough b r g → Gives (t g a) r z) → (f : ℕ) → Enough c s f → Gives (m f) s z
+  goes : (z : Parse (List Symbol) A) → ((g : ℕ) → Enough b r g → Gives (t g a) r z) → (f : ℕ) → Enough c s f → Gives (m f) s z
 
 module _ {A : Type 0} where
-  stepped : {c : ℕ} {s : List Symbol} {z : Result (List Symbol) A} (m : ℕ → Parser A) → ((g : ℕ) → Enough c s (suc g) → Gives (m (suc g)) s z) → (f : ℕ) → Enough c s f → Gives (m f) s z
+  stepped : {c : ℕ} {s : List Symbol} {z : Parse (List Symbol) A} (m : ℕ → Parser A) → ((g : ℕ) → Enough c s (suc g) → Gives (m (suc g)) s z) → (f : ℕ) → Enough c s f → Gives (m f) s z
   stepped m step zero l = absurd (omega arith)
   stepped m step (suc g) l = step g l
 
@@ -196,12 +196,12 @@ module _ (text : List ℕ) where
 
   -- a pick goes on behind its tokens
   module _ (xs ys r : List Symbol) {a b : Tree} where
-    picked : Complete postfix xs a → ((g : ℕ) (z : Result (List Symbol) Tree) → Gives (picks_from text uncons g b) r z → Gives (picks_from text uncons (suc g) a) (ys ++ r) z) → 0 < length ys → Goes 0 1 (postfix_from text uncons) (picks_from text uncons) b r (xs ++ ys ++ r)
+    picked : Complete postfix xs a → ((g : ℕ) (z : Parse (List Symbol) Tree) → Gives (picks_from text uncons g b) r z → Gives (picks_from text uncons (suc g) a) (ys ++ r) z) → 0 < length ys → Goes 0 1 (postfix_from text uncons) (picks_from text uncons) b r (xs ++ ys ++ r)
     picked h go n = goes-as (append_assoc xs ys r)
         (record { goes = λ z k. (h (ys ++ r)).goes z (stepped (λ g. picks_from text uncons g a) (λ g l. go g z (k g (omega (arith, length-append ys r))))) })
 
   -- a word begins a call
-  word-called : (f : ℕ) {x : Symbol} {s : List Symbol} {z : Result (List Symbol) Tree} → is word x ≡ true → Gives (call_from text uncons f x) s z → Gives (primary_from text uncons (suc f)) (x ∷ s) z
+  word-called : (f : ℕ) {x : Symbol} {s : List Symbol} {z : Parse (List Symbol) Tree} → is word x ≡ true → Gives (call_from text uncons f x) s z → Gives (primary_from text uncons (suc f)) (x ∷ s) z
   unfolding expression_from
   word-called f {x} {s} h k =
       no is_literal _ _ (x ∷ s) (test_of word x is_literal h) (no (is symbol.variable) _ _ (x ∷ s) (test_of word x (is symbol.variable) h) (no (is open_round) _ _ (x ∷ s) (test_of word x (is open_round) h) (yes (is word) _ _ h k)))

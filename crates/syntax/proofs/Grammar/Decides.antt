@@ -9,7 +9,7 @@ use Rattle.tree.specs.Tree.{Tree}
 use Rattle.syntax.specs.Symbol.{seen}
 use Rattle.syntax.specs.Grammar.{expression, ‹◌›, Derives}
 use Rattle.syntax.specs.Place.{symbols_of, Right, Begins, Never, Refused}
-use Rattle.syntax.specs.Parser.{Result, part, refused, spent, on_part, and_then, at_end, expression_from, whole_from}
+use Rattle.syntax.specs.Parser.{Parse, part, refused, spent, on_part, and_then, at_end, expression_from, whole_from}
 use Rattle.syntax.specs.declared.symbol.Symbol.{Symbol}
 use Rattle.syntax.proofs.Law.Steps.{given, then-part}
 use Rattle.syntax.proofs.Grammar.Lists.{uncons}
@@ -22,7 +22,7 @@ abbrev pub steps_of : List Symbol → ℕ
 steps_of xs = length xs * 32 + 32
 
 -- a refusal before u, and a whole list that ends in v: not both
-apart : {u v : List Symbol} {a b : Result (List Symbol) Tree} {x : Symbol} {e : Tree} → Out u v a b → a ≡ refused (x ∷ u) → b ≡ part e [] → ⊥
+apart : {u v : List Symbol} {a b : Parse (List Symbol) Tree} {x : Symbol} {e : Tree} → Out u v a b → a ≡ refused (x ∷ u) → b ≡ part e [] → ⊥
 apart (parts e x q) h k = let z : ◌≡◌ {A = ℕ} 0 1 = cc in omega arith
 apart (refusals x q) h k = let z : ◌≡◌ {A = ℕ} 0 1 = cc in omega arith
 apart {u} {x = x} (gone a b l) h k = let z : length (x ∷ u) ≤ length u = subst (λ r. Gone u r) h l in omega arith
@@ -33,7 +33,7 @@ module _ (text : List ℕ) where
   whole-fair : (f : ℕ) (xs : List Symbol) → Fair (Derives text expression) xs (whole_from text uncons f xs)
   whole-fair f xs = let w : Sound (Derives text expression) [] (whole_from text uncons f) = sound-then (expression-sound text f) (λ _ e d. sound-end e d) in w.fair xs
 
-  whole-ends : (a : Result (List Symbol) Tree) (e : Tree) (r : List Symbol) → on_part a (at_end uncons) ≡ part e r → r ≡ []
+  whole-ends : (a : Parse (List Symbol) Tree) (e : Tree) (r : List Symbol) → on_part a (at_end uncons) ≡ part e r → r ≡ []
   unfolding at_end
   whole-ends (part x []) e r h = cc
   whole-ends (part x (y ∷ s)) e r h = cc

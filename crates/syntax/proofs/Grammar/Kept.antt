@@ -7,7 +7,7 @@ use native.Mathlib.Omega.{arith}
 use Rattle.tree.specs.Tree.{Tree, Arguments, pick, binary}
 use Rattle.syntax.specs.Symbol.{question, colon, open_round, close_round, open_square, close_square, comma, dot, word, is, is_literal, is_index, index_of, is_word, is_prefix, levels, has_precedence, member_of}
 use Rattle.syntax.specs.Symbol as symbol
-use Rattle.syntax.specs.Parser.{Result, part, refused, nothing, and_then, ask, at_end, closed, Branches, expression_from}
+use Rattle.syntax.specs.Parser.{Parse, part, refused, nothing, and_then, ask, at_end, closed, Branches, expression_from}
 use Rattle.syntax.specs.Parser.{branches_from, level_from, tail_from, unary_from, postfix_from, picks_from, primary_from, call_from}
 use Rattle.syntax.specs.Parser.{arguments_from, whole_from}
 use Rattle.syntax.specs.declared.symbol.Symbol.{Symbol}
@@ -22,15 +22,15 @@ le_of zero g l = le-zero g
 le_of (suc f) zero l = absurd (omega arith)
 le_of (suc f) (suc g) l = le-suc (le_of f g (omega arith))
 
-pub record Kept {S T : Type 0} (after : S → Option (Symbol × S)) (after' : T → Option (Symbol × T)) (R : (A : Type 0) → (S → Result S A) → (T → Result T A) → Type 0) : Type 1 where
+pub record Kept {S T : Type 0} (after : S → Option (Symbol × S)) (after' : T → Option (Symbol × T)) (R : (A : Type 0) → (S → Parse S A) → (T → Parse T A) → Type 0) : Type 1 where
   pub kept-part : {A : Type 0} {a : A} → R A (part a) (part a)
   pub kept-refused : {A : Type 0} → R A refused refused
-  pub kept-nothing : {A : Type 0} {n : T → Result T A} → R A nothing n
+  pub kept-nothing : {A : Type 0} {n : T → Parse T A} → R A nothing n
   pub kept-end : {A : Type 0} (a : A) → R A (at_end after a) (at_end after' a)
-  pub kept_then : {A B : Type 0} {m : S → Result S A} {n : T → Result T A} {k : A → S → Result S B} {l : A → T → Result T B} → R A m n → ((a : A) → R B (k a) (l a)) → R B (and_then m k) (and_then n l)
-  pub kept-ask : {A : Type 0} {y : Symbol → S → Result S A} {y' : Symbol → T → Result T A} {n : S → Result S A} {n' : T → Result T A} (test : Symbol → Bool) → ((x : Symbol) → R A (y x) (y' x)) → R A n n' → R A (ask after test y n) (ask after' test y' n')
+  pub kept_then : {A B : Type 0} {m : S → Parse S A} {n : T → Parse T A} {k : A → S → Parse S B} {l : A → T → Parse T B} → R A m n → ((a : A) → R B (k a) (l a)) → R B (and_then m k) (and_then n l)
+  pub kept-ask : {A : Type 0} {y : Symbol → S → Parse S A} {y' : Symbol → T → Parse T A} {n : S → Parse S A} {n' : T → Parse T A} (test : Symbol → Bool) → ((x : Symbol) → R A (y x) (y' x)) → R A n n' → R A (ask after test y n) (ask after' test y' n')
 
-module _ {S T : Type 0} {after : S → Option (Symbol × S)} {after' : T → Option (Symbol × T)} {R : (A : Type 0) → (S → Result S A) → (T → Result T A) → Type 0} (text : List ℕ) (K : Kept after after' R) where
+module _ {S T : Type 0} {after : S → Option (Symbol × S)} {after' : T → Option (Symbol × T)} {R : (A : Type 0) → (S → Parse S A) → (T → Parse T A) → Type 0} (text : List ℕ) (K : Kept after after' R) where
   open K use {kept-part, kept-refused, kept-nothing, kept-end, kept_then, kept-ask}
 
   closed-kept : (A : Type 0) (a : A) → R A (closed after a) (closed after' a)

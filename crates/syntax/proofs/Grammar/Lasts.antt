@@ -8,14 +8,14 @@ use lib.ListN.{length}
 use Rattle.tree.specs.Tree.{Tree, pick, binary}
 use Rattle.syntax.specs.Symbol.{question, colon, open_round, close_round, open_square, close_square, comma, dot, word, is, is_literal, is_index, index_of, is_word, is_prefix, levels, has_precedence, member_of}
 use Rattle.syntax.specs.Symbol as symbol
-use Rattle.syntax.specs.Parser.{Result, part, refused, spent, on_part, and_then, tested, ask, at_end, closed, expression_from}
+use Rattle.syntax.specs.Parser.{Parse, part, refused, spent, on_part, and_then, tested, ask, at_end, closed, expression_from}
 use Rattle.syntax.specs.Parser.{branches_from, level_from, tail_from, unary_from, postfix_from, picks_from, primary_from, call_from}
 use Rattle.syntax.specs.Parser.{arguments_from, whole_from}
 use Rattle.syntax.specs.declared.symbol.Symbol.{Symbol}
 use Rattle.syntax.proofs.Grammar.Lists.{Parser, uncons}
 
 -- an answer that took d of n symbols at least
-abbrev Ample : {A : Type 0} → ℕ → ℕ → Result (List Symbol) A → Type 0
+abbrev Ample : {A : Type 0} → ℕ → ℕ → Parse (List Symbol) A → Type 0
 Ample d n (part a r) = length r + d ≤ n
 Ample d n (refused r) = Unit {0}
 Ample d n spent = ⊥
@@ -26,7 +26,7 @@ record Lasts {A : Type 0} (d n : ℕ) (m : Parser A) : Type 0 where
 
 -- ---- the pieces
 
-fewer : {A : Type 0} (d k n : ℕ) (a : Result (List Symbol) A) → k < n → d ≤ 1 → Ample 0 k a → Ample d n a
+fewer : {A : Type 0} (d k n : ℕ) (a : Parse (List Symbol) A) → k < n → d ≤ 1 → Ample 0 k a → Ample d n a
 fewer d k n (part a r) l h f = omega arith
 fewer d k n (refused r) l h f = tt
 fewer d k n spent l h f = f
@@ -46,7 +46,7 @@ lasts-end {A} {n} a = record { lasts = go }
     go (x ∷ s) h = tt
 
 module _ {A B : Type 0} {d n : ℕ} where
-  then-ample : (k : A → Parser B) → d ≤ 1 → ((i : ℕ) → i < n → (a : A) → Lasts 0 i (k a)) → (s : List Symbol) → length s ≤ n → (r : Result (List Symbol) A) → Ample 1 (length s) r → Ample d (length s) (on_part r k)
+  then-ample : (k : A → Parser B) → d ≤ 1 → ((i : ℕ) → i < n → (a : A) → Lasts 0 i (k a)) → (s : List Symbol) → length s ≤ n → (r : Parse (List Symbol) A) → Ample 1 (length s) r → Ample d (length s) (on_part r k)
   then-ample k le on s h (part a r) f = fewer d (length r) (length s) (k a r) (omega arith) le ((on (length r) (omega arith) a).lasts r (omega arith))
   then-ample k le on s h (refused r) f = tt
   then-ample k le on s h spent f = f

@@ -4,11 +4,11 @@ use mathlib.Core.Bool.{Bool}
 use mathlib.Core.List.{List, [], ◌∷◌, ◌++◌}
 use mathlib.Core.Option.{Option, none, some}
 use Prim.Native.Nat.{ℕ}
-use Rattle.syntax.specs.Parser.{Result}
+use Rattle.syntax.specs.Parser.{Parse}
 use Rattle.syntax.specs.declared.symbol.Symbol.{Symbol}
 
 abbrev pub Parser : Type 0 → Type 0
-Parser A = List Symbol → Result (List Symbol) A
+Parser A = List Symbol → Parse (List Symbol) A
 
 abbrev pub uncons : List Symbol → Option (Symbol × List Symbol)
 uncons [] = none

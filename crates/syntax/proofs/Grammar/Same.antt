@@ -5,22 +5,22 @@ use Prim.Native.Nat.{ℕ, ◌≤◌}
 use native.Mathlib.Omega.{arith}
 use lib.ListN.{length}
 use Rattle.tree.specs.Tree.{Tree}
-use Rattle.syntax.specs.Parser.{Result, part, refused, spent, on_part, and_then, tested, ask, at_end, whole_from}
+use Rattle.syntax.specs.Parser.{Parse, part, refused, spent, on_part, and_then, tested, ask, at_end, whole_from}
 use Rattle.syntax.specs.declared.symbol.Symbol.{Symbol}
 use Rattle.syntax.proofs.Grammar.Lists.{Parser, uncons}
 use Rattle.syntax.proofs.Grammar.Kept.{Le, Kept, whole-kept}
 
 -- the parser has looked into u: no more than u is left
-abbrev pub Gone : {A : Type 0} → List Symbol → Result (List Symbol) A → Type 0
+abbrev pub Gone : {A : Type 0} → List Symbol → Parse (List Symbol) A → Type 0
 Gone u (part a r) = length r ≤ length u
 Gone u (refused r) = length r ≤ length u
 Gone u spent = Unit {0}
 
 -- the same answer over lists that end in u and in v, or one that looked into the end
-pub data Out {A : Type 0} (u v : List Symbol) : Result (List Symbol) A → Result (List Symbol) A → Type 0 where
+pub data Out {A : Type 0} (u v : List Symbol) : Parse (List Symbol) A → Parse (List Symbol) A → Type 0 where
   parts : (a : A) (x : Symbol) (q : List Symbol) → Out u v (part a (x ∷ (q ++ u))) (part a (x ∷ (q ++ v)))
   refusals : (x : Symbol) (q : List Symbol) → Out u v (refused (x ∷ (q ++ u))) (refused (x ∷ (q ++ v)))
-  gone : (a b : Result (List Symbol) A) → Gone u a → Out u v a b
+  gone : (a b : Parse (List Symbol) A) → Gone u a → Out u v a b
 
 pub record Same (u v : List Symbol) (A : Type 0) (m n : Parser A) : Type 0 where
   pub past : (s : List Symbol) → length s ≤ length u → Gone u (m s)
@@ -40,12 +40,12 @@ module _ {u v : List Symbol} where
       go (x ∷ s) h = h
 
   module _ {A B : Type 0} {k l : A → Parser B} (on : (a : A) → Same u v B (k a) (l a)) where
-    then-past : (r : Result (List Symbol) A) → Gone u r → Gone u (on_part r k)
+    then-past : (r : Parse (List Symbol) A) → Gone u r → Gone u (on_part r k)
     then-past (part a s) h = (on a).past s h
     then-past (refused s) h = h
     then-past spent h = tt
 
-    then-out : {r s : Result (List Symbol) A} → Out u v r s → Out u v (on_part r k) (on_part s l)
+    then-out : {r s : Parse (List Symbol) A} → Out u v r s → Out u v (on_part r k) (on_part s l)
     then-out (parts a x q) = (on a).same x q
     then-out (refusals x q) = refusals x q
     then-out (gone r s h) = gone (on_part r k) (on_part s l) (then-past r h)

@@ -14,7 +14,7 @@ use Rattle.syntax.specs.Grammar.{expression, binary, unary, postfix, primary, ar
 use Rattle.syntax.specs.Grammar.{conditional, binary-unary, binary-lower, binary-operation, unary-postfix, unary-operation}
 use Rattle.syntax.specs.Grammar.{postfix-primary, member, index, literal, variable, bare, call, brackets, last, next}
 use Rattle.syntax.specs.Place.{symbols_of}
-use Rattle.syntax.specs.Parser.{Result, part, refused, spent, nothing, on_part, and_then, tested, ask, expect, at_end, Branches}
+use Rattle.syntax.specs.Parser.{Parse, part, refused, spent, nothing, on_part, and_then, tested, ask, expect, at_end, Branches}
 use Rattle.syntax.specs.Parser.{branches, chosen, expression_from, branches_from, level_from, tail_from, unary_from, postfix_from}
 use Rattle.syntax.specs.Parser.{picks_from, primary_from, call_from, arguments_from}
 use Rattle.syntax.specs.declared.symbol.Symbol.{Symbol}
@@ -29,7 +29,7 @@ pub record Opens {A : Type 0} (P : List Symbol → A → Type 0) (xs : List Symb
   pub right : P (xs ++ symbols_of more) value
 
 -- what may be answered of the symbols s
-abbrev pub Fair : {A : Type 0} → (List Symbol → A → Type 0) → List Symbol → Result (List Symbol) A → Type 0
+abbrev pub Fair : {A : Type 0} → (List Symbol → A → Type 0) → List Symbol → Parse (List Symbol) A → Type 0
 Fair P s (part a r) = (xs : List Symbol) × (s ≡ xs ++ r) × P xs a
 Fair P s (refused r) = (xs : List Symbol) × (s ≡ xs ++ r) × Opens P xs
 Fair P s spent = Unit {0}
@@ -84,7 +84,7 @@ module _ {A : Type 0} {P : List Symbol → A → Type 0} where
     sound-expect test t h a = sound-ask test a (sound-refused (shorter p (placed t 0 0 ∷ []) (a (seen t 0 0) h).opens))
 
 module _ {A B : Type 0} (P : List Symbol → A → Type 0) (Q : List Symbol → B → Type 0) (p : List Symbol) (k : A → Parser B) (on : (q : List Symbol) (a : A) → P q a → Sound Q (p ++ q) (k a)) where
-  then-fair : (s : List Symbol) (r : Result (List Symbol) A) → Fair P s r → Fair Q (p ++ s) (on_part r k)
+  then-fair : (s : List Symbol) (r : Parse (List Symbol) A) → Fair P s r → Fair Q (p ++ s) (on_part r k)
   then-fair s (part a r) h = rw (h.1, ← append_assoc) ((on h.0 a h.2).fair r)
   then-fair s (refused r) h =
       let o = h.2 in
@@ -104,7 +104,7 @@ module _ {A : Type 0} {P Q : List Symbol → A → Type 0} (up : (q : List Symbo
   up-opens : {p : List Symbol} → Opens P p → Opens Q p
   up-opens o = record { more = o.more; value = o.value; right = up _ _ o.right }
 
-  up-fair : (s : List Symbol) (r : Result (List Symbol) A) → Fair P s r → Fair Q s r
+  up-fair : (s : List Symbol) (r : Parse (List Symbol) A) → Fair P s r → Fair Q s r
   up-fair s (part a r) h = (h.0, h.1, up _ _ h.2)
   up-fair s (refused r) h = (h.0, h.1, up-opens h.2)
   up-fair s spent h = tt

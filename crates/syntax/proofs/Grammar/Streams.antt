@@ -16,7 +16,7 @@ use Rattle.lexer.proofs.OnDemand.{on-found, on-bad, on-end}
 use Rattle.tree.specs.Tree.{Tree}
 use Rattle.syntax.specs.Symbol.{end, number_of, seen, symbol_of, symbol_at, is}
 use Rattle.syntax.specs.Place.{symbols_of, place_of}
-use Rattle.syntax.specs.Parser.{Result, part, refused, spent, on_part, and_then, tested, ask, at_end, whole_from, in_text}
+use Rattle.syntax.specs.Parser.{Parse, part, refused, spent, on_part, and_then, tested, ask, at_end, whole_from, in_text}
 use Rattle.syntax.specs.declared.symbol.Symbol.{Symbol}
 use Rattle.syntax.proofs.Law.Symbols.{token-number}
 use Rattle.syntax.proofs.Grammar.Lists.{Parser, uncons}
@@ -35,12 +35,12 @@ module _ (text : List ℕ) where
   stream-place (placed t at until ∷ ts) (goes e h) = refl
 
   -- the list's answer, where it is not that no steps are left, and the text's
-  pub data Alike {A : Type 0} : Result (List Symbol) A → Result Symbol A → Type 0 where
+  pub data Alike {A : Type 0} : Parse (List Symbol) A → Parse Symbol A → Type 0 where
     parts : (a : A) {x : Symbol} {xs : List Symbol} → Streams x xs → Alike (part a xs) (part a x)
     refusals : {x : Symbol} {xs : List Symbol} → Streams x xs → Alike (refused xs) (refused x)
-    nothing_left : {r : Result Symbol A} → Alike spent r
+    nothing_left : {r : Parse Symbol A} → Alike spent r
 
-  pub record Over (A : Type 0) (m : Parser A) (n : Symbol → Result Symbol A) : Type 0 where
+  pub record Over (A : Type 0) (m : Parser A) (n : Symbol → Parse Symbol A) : Type 0 where
     pub over : {x : Symbol} {xs : List Symbol} → Streams x xs → Alike (m xs) (n x)
 
   over-end : {A : Type 0} (a : A) → Over A (at_end uncons a) (at_end (in_text text) a)
@@ -51,17 +51,17 @@ module _ (text : List ℕ) where
       go (ends e p) = rw e (parts a (ends e p))
       go (goes e h) = rw e (refusals (goes e h))
 
-  module _ {A B : Type 0} {m : Parser A} {n : Symbol → Result Symbol A} {k : A → Parser B} {l : A → Symbol → Result Symbol B} where
+  module _ {A B : Type 0} {m : Parser A} {n : Symbol → Parse Symbol A} {k : A → Parser B} {l : A → Symbol → Parse Symbol B} where
     over-then : Over A m n → ((a : A) → Over B (k a) (l a)) → Over B (and_then m k) (and_then n l)
     unfolding and_then
     over-then h on = record { over = λ s. go (h.over s) }
       where
-        go : {r : Result (List Symbol) A} {s : Result Symbol A} → Alike r s → Alike (on_part r k) (on_part s l)
+        go : {r : Parse (List Symbol) A} {s : Parse Symbol A} → Alike r s → Alike (on_part r k) (on_part s l)
         go (parts a s) = (on a).over s
         go (refusals s) = refusals s
         go nothing_left = nothing_left
 
-  module _ {A : Type 0} {y : Symbol → Parser A} {y' : Symbol → Symbol → Result Symbol A} {n : Parser A} {n' : Symbol → Result Symbol A} where
+  module _ {A : Type 0} {y : Symbol → Parser A} {y' : Symbol → Symbol → Parse Symbol A} {n : Parser A} {n' : Symbol → Parse Symbol A} where
     over-ask : (test : Symbol → Bool) → ((x : Symbol) → Over A (y x) (y' x)) → Over A n n' → Over A (ask uncons test y n) (ask (in_text text) test y' n')
     unfolding ask
     over-ask test a b = record { over = go }

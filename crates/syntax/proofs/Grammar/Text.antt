@@ -8,7 +8,7 @@ use Rattle.lexer.specs.Tokens.{Placed, tokens, tokens_of}
 use Rattle.tree.specs.Tree.{Tree}
 use Rattle.syntax.specs.Grammar.{expression, Derives}
 use Rattle.syntax.specs.Place.{symbols_of, Right, Refused, place_of, RefusedAt}
-use Rattle.syntax.specs.Parser.{Result, part, refused, spent, whole_from, steps_for, parse_of}
+use Rattle.syntax.specs.Parser.{Parse, part, refused, spent, whole_from, steps_for, parse_of}
 use Rattle.syntax.specs.declared.symbol.Symbol.{Symbol}
 use Rattle.syntax.proofs.Grammar.Lists.{uncons}
 use Rattle.syntax.proofs.Grammar.Kept.{le_of}
@@ -28,19 +28,19 @@ module _ (text : List ℕ) where
   right-nowhere ts p (r, h, i) d = never_both text h d
 
   -- the parser over a list, with steps enough
-  abbrev list_answer : List Symbol → Result (List Symbol) Tree
+  abbrev list_answer : List Symbol → Parse (List Symbol) Tree
   list_answer xs = whole_from text uncons (steps_of xs) xs
 
   module _ (ts : List Placed) where
     -- its answer by the grammar
-    data ListDecided : Result (List Symbol) Tree → Type 0 where
+    data ListDecided : Parse (List Symbol) Tree → Type 0 where
       list_right : (e : Tree) (r : List Symbol) → Derives text expression (symbols_of ts) e → ListDecided (part e r)
       list-wrong : (rest : List Placed) → Refused text ts rest → ListDecided (refused (symbols_of rest))
 
     list-decided : ListDecided (list_answer (symbols_of ts))
     list-decided = go (list_answer (symbols_of ts)) refl
       where
-        go : (a : Result (List Symbol) Tree) → list_answer (symbols_of ts) ≡ a → ListDecided a
+        go : (a : Parse (List Symbol) Tree) → list_answer (symbols_of ts) ≡ a → ListDecided a
         go (part e r) h = list_right e r (taken-right text (steps_of (symbols_of ts)) (symbols_of ts) e r h)
         go (refused r) h = let (rest, i, j) = refused-where text (steps_of (symbols_of ts)) ts r (omega arith) h in rw (← j) (list-wrong rest i)
         go spent h = absurd (list-lasts text (steps_of (symbols_of ts)) (symbols_of ts) (omega arith) h)
@@ -49,7 +49,7 @@ module _ (text : List ℕ) where
     pub right-or-refused : Right text ts ⊎ ((p : ℕ) × RefusedAt text ts p)
     right-or-refused = go list-decided
       where
-        go : {a : Result (List Symbol) Tree} → ListDecided a → Right text ts ⊎ ((p : ℕ) × RefusedAt text ts p)
+        go : {a : Parse (List Symbol) Tree} → ListDecided a → Right text ts ⊎ ((p : ℕ) × RefusedAt text ts p)
         go (list_right e r d) = inl (e, d)
         go (list-wrong rest h) = inr (place_of text rest, (rest, h, refl))
 
@@ -63,18 +63,18 @@ module _ (text : List ℕ) where
   pub never-spent : parse_of text ≡ spent → ⊥
   never-spent h = go (list_answer (listed text).symbols) refl (parse_of text) h alike
     where
-      go : (a : Result (List Symbol) Tree) → list_answer (listed text).symbols ≡ a → (b : Result Symbol Tree) → b ≡ spent → Alike text a b → ⊥
+      go : (a : Parse (List Symbol) Tree) → list_answer (listed text).symbols ≡ a → (b : Parse Symbol Tree) → b ≡ spent → Alike text a b → ⊥
       go _ e _ h (parts a s) = let z : ◌≡◌ {A = ℕ} 0 1 = cc in omega arith
       go _ e _ h (refusals s) = let z : ◌≡◌ {A = ℕ} 0 1 = cc in omega arith
       go _ e _ h nothing_left = list-lasts text (steps_of (listed text).symbols) (listed text).symbols (omega arith) e
 
   module _ (ts : List Placed) where
     -- the text's answer by the grammar
-    data Decided : Result Symbol Tree → Type 0 where
+    data Decided : Parse Symbol Tree → Type 0 where
       right : (e : Tree) (x : Symbol) → Derives text expression (symbols_of ts) e → Decided (part e x)
       wrong : (x : Symbol) → RefusedAt text ts x.at → Decided (refused x)
 
-    decided-as : {a : Result (List Symbol) Tree} {b : Result Symbol Tree} → ListDecided ts a → Alike text a b → Decided b
+    decided-as : {a : Parse (List Symbol) Tree} {b : Parse Symbol Tree} → ListDecided ts a → Alike text a b → Decided b
     decided-as (list_right e r d) (parts _ {x} s) = right e x d
     decided-as (list-wrong rest h) (refusals {x} s) = wrong x (rest, h, stream-place text rest s)
 
@@ -86,11 +86,11 @@ module _ (text : List ℕ) where
       pub accepts : (e : Tree) → ((x : Symbol) × (parse_of text ≡ part e x)) ↔ Derives text expression (symbols_of ts) e
       accepts e = (λ (x, h). onto (parse_of text) decided x h, λ d. back d (parse_of text) decided refl)
         where
-          onto : (a : Result Symbol Tree) → Decided a → (x : Symbol) → a ≡ part e x → Derives text expression (symbols_of ts) e
+          onto : (a : Parse Symbol Tree) → Decided a → (x : Symbol) → a ≡ part e x → Derives text expression (symbols_of ts) e
           onto _ (right e' x' d) x h = let i : e' ≡ e = cc in rw i at d
           onto _ (wrong x' r) x h = let z : ◌≡◌ {A = ℕ} 0 1 = cc in absurd (omega arith)
 
-          back : Derives text expression (symbols_of ts) e → (a : Result Symbol Tree) → Decided a → parse_of text ≡ a → (x : Symbol) × (parse_of text ≡ part e x)
+          back : Derives text expression (symbols_of ts) e → (a : Parse Symbol Tree) → Decided a → parse_of text ≡ a → (x : Symbol) × (parse_of text ≡ part e x)
           back d _ (right e' x d') h = (x, h ∙ ap (λ e. part e x) (one-tree text (symbols_of ts) e' e d' d))
           back d _ (wrong x r) h = absurd (right-nowhere ts x.at r (e, d))
 
@@ -98,10 +98,10 @@ module _ (text : List ℕ) where
       pub refuses : (p : ℕ) → ((x : Symbol) × (parse_of text ≡ refused x) × (x.at ≡ p)) ↔ RefusedAt text ts p
       refuses p = (λ (x, h, i). onto (parse_of text) decided x h i, λ r. back r (parse_of text) decided refl)
         where
-          onto : (a : Result Symbol Tree) → Decided a → (x : Symbol) → a ≡ refused x → x.at ≡ p → RefusedAt text ts p
+          onto : (a : Parse Symbol Tree) → Decided a → (x : Symbol) → a ≡ refused x → x.at ≡ p → RefusedAt text ts p
           onto _ (right e x' d) x h i = let z : ◌≡◌ {A = ℕ} 0 1 = cc in absurd (omega arith)
           onto _ (wrong x' r) x h i = let j : x' ≡ x = cc in subst (λ q. RefusedAt text ts q) (ap (λ (y : Symbol). y.at) j ∙ i) r
 
-          back : RefusedAt text ts p → (a : Result Symbol Tree) → Decided a → parse_of text ≡ a → (x : Symbol) × (parse_of text ≡ refused x) × (x.at ≡ p)
+          back : RefusedAt text ts p → (a : Parse Symbol Tree) → Decided a → parse_of text ≡ a → (x : Symbol) × (parse_of text ≡ refused x) × (x.at ≡ p)
           back r _ (right e x d) h = absurd (right-nowhere ts p r (e, d))
           back r _ (wrong x r') h = (x, h, one_place ts x.at p r' r)

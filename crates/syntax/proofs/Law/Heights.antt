@@ -14,7 +14,7 @@ use Rattle.tree.specs.declared.node.Node.{Node}
 use Rattle.tree.specs.declared.node.Node.TheVariants.{Literal, Variable, Unary, Binary, Conditional, Bare, Call, Pick}
 use Rattle.tree.specs.Fits.{allowed, pruned, pruned_all}
 use Rattle.syntax.specs.Height.{height_of, height_of_all}
-use Rattle.syntax.proofs.Law.Nodes.{tree-step}
+use Rattle.syntax.proofs.Law.Nodes.{tree-step, arguments-none, arguments-node}
 
 -- ---- the greater of two
 
@@ -60,11 +60,18 @@ within_grown (Bare f) p h tree arguments = rw (leb-suc-suc, leb-zero)
 within_grown (Call f xs) p h tree arguments = rw leb-suc-suc
 within_grown (Pick i e) p h tree arguments = rw leb-suc-suc
 
-pub within_step : (w : List ℕ) (p h : ℕ) (n : Node) → (h ≡ 0 → ⊥) → n ≡ node_at w p →
-    leb (height_of (tree_at h w p)) h ≡
-    within_by n (λ q. leb (height_of (tree_at (h - 1) w q)) (h - 1)) (λ q. leb (height_of_all (arguments_at (tree_at (h - 1) w) most_commas w q)) (h - 1))
-within_step w p zero n some e = absurd (some refl)
-within_step w p (suc h) n some e = rw (tree-step w p (suc h) n some e, sub-one (suc h)) (within_grown n p h (tree_at h w) (arguments_at (tree_at h w) most_commas w))
+-- with nothing allowed no tree is within, and else it is by its node
+pub within-none : (w : List ℕ) (p : ℕ) → leb (height_of (tree_at 0 w p)) 0 ≡ false
+unfolding tree_at height_of
+within-none w p = refl
+
+pub within-node : (w : List ℕ) (p h : ℕ) → (h ≡ 0 → ⊥) → leb (height_of (tree_at h w p)) h ≡
+    within_by (node_at w p) (λ q. leb (height_of (tree_at (h - 1) w q)) (h - 1)) (λ q. leb (height_of_all (arguments_at (tree_at (h - 1) w) most_commas w q)) (h - 1))
+within-node w p zero some = absurd (some refl)
+within-node w p (suc h) some = rw (tree-step w p (suc h) _ some refl, sub-one (suc h)) (within_grown (node_at w p) p h (tree_at h w) (arguments_at (tree_at h w) most_commas w))
+
+-- by which the check proves the code
+pub ruleset by_node = (within-none, within-node, arguments-none, arguments-node, leb-max)
 
 -- ---- a tree that was pruned
 

@@ -7,6 +7,7 @@ use native.Mathlib.Omega.{arith}
 use borrow.Author.Tests.{eqb-true, eqb-false, ltb-true, ltb-false, le-leb, lt-leb, ne_eqb}
 use lib.Dec.{eqb, ltb, leb}
 use lib.ListN.{length, get_or-eq_default}
+use Rattle.std.proofs.lemmas.Bool.Decides.{nat_tests}
 use Rattle.lexer.specs.Punctuator.{punctuators}
 use Rattle.syntax.specs.Symbol.{is_among, spelling, prefixes, is_prefix, precedence_of}
 use Rattle.syntax.specs.declared.symbol.Symbol.{Symbol}
@@ -94,3 +95,6 @@ precedence-is n = go (ltb n 22) refl
 
 pub operator-none : (n : ℕ) → 14 < n → precedence_of n ≡ 0
 operator-none n h = rw (precedence-is n) (none-by n h)
+
+-- what the code's ranges of numbers are, with the tests that they are made of
+pub ruleset by_ranges = (prefix-is, precedence-is, nat_tests)

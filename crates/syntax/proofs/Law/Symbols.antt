@@ -1,12 +1,13 @@
 -- Symbols: where they lie in the text, what numbers they have, and what follows them.
+use Rattle.std.specs.Prelude.{Option, None, Some, Ok, Err, Result}
 use mathlib.Core.Path.{◌≡◌, refl, ap, sym, subst, ◌∙◌}
 use mathlib.Core.Bool.{true, cond, ◌&&◌, and-eq-true_iff}
 use mathlib.Core.List.{List, [], ◌∷◌}
 use Prim.Native.Nat.{ℕ, suc, ◌-◌, ◌%◌, ◌<◌, ◌≤◌}
-use native.Mathlib.Nat.{mod-lt, mod-eq_of_lt}
+use native.Mathlib.Nat.{mod-lt}
 use native.Mathlib.Omega.{arith}
 use borrow.Author.Tests.{ltb-true, leb-true, eqb-true}
-use lib.Dec.{eqb, ltb, leb, lit<, lit≤}
+use lib.Dec.{eqb, ltb, leb, lit<}
 use lib.ListN.{length, take, drop}
 use lib.Seq.{slice, length-slice}
 use Rattle.lexer.specs.Bytes.{same, place_in}
@@ -24,10 +25,9 @@ use Rattle.lexer.proofs.Munch.{munch}
 use Rattle.value.specs.Name.{function_names, member_names, member_index}
 use Rattle.tree.specs.Slots.{tags, function_tag, question_tag, pick_tag}
 use Rattle.syntax.specs.Symbol.{number_of, symbol_of, symbol_at, dot, open_square, close_square, is, is_word, is_index, function_of, member_of}
-use Rattle.syntax.specs.Inner.{Sound, Follows, member_pick_of, index_pick_of, picking_of}
+use Rattle.syntax.specs.Inner.{Sound, Follows, member_pick_of, index_pick_of, begun, picking_of}
 use Rattle.syntax.specs.declared.symbol.Symbol.{Symbol}
-use Rattle.syntax.specs.declared.parse.Picking.{Picking}
-use Rattle.syntax.specs.declared.parse.Picking.TheVariants as pick
+use Rattle.syntax.specs.declared.parse.Pick.{Pick}
 
 -- ---- the number of each form of token
 
@@ -89,15 +89,6 @@ module _ (text : List ℕ) (from : ℕ) where
   unfolding symbol_at
   numbers = number-of text (lexeme_at text from)
 
-  -- as it is made from what stands there
-  module _ (x : Lexeme) (e : x ≡ lexeme_at text from) where
-    pub symbol-is : symbol_of text x ≡ symbol_at text from
-    unfolding symbol_at
-    symbol-is = ap (symbol_of text) e
-
-    pub symbol-found : (n at end : ℕ) (t : Token) → x ≡ Found t at end → n ≡ number_of t → record { number = n; at = at; end = end } ≡ symbol_at text from
-    symbol-found n at end t f q = (λ i. record { number = q i; at = at; end = end }) ∙ ap (symbol_of text) (sym f) ∙ symbol-is
-
 pub sound-as : {text : List ℕ} {x : Symbol} (from : ℕ) → x ≡ symbol_at text from → Sound text x
 sound-as {text} from e = subst (Sound text) (sym e) (sound-at text from)
 
@@ -113,9 +104,6 @@ place-most (t ∷ ss) s = by-test (λ (n : ℕ). n ≤ suc (length ss)) (same s 
 pub function-known : (text : List ℕ) (x : Symbol) → function_tag (function_of text x) < question_tag
 function-known text x = let h : function_of text x ≤ 20 = place-most function_names (slice x.at x.end text) in omega arith
 
-kept : (n m k : ℕ) → n ≡ m → m < k → k ≤ 256 → n % 256 ≡ m
-kept n m k e h l = mod-eq_of_lt (omega arith) ∙ e
-
 index_below : (n : ℕ) → pick_tag (cond (ltb n 8) (n % 4) 4) < tags
 index_below n = by-test (λ (m : ℕ). pick_tag m < tags) (ltb n 8) (λ e. omega (arith, mod-lt n {m = 4} (lit< tt))) (λ e. omega arith)
 
@@ -123,7 +111,7 @@ pub member-known : (text : List ℕ) (x : Symbol) → pick_tag (member_of text x
 unfolding member_index
 member-known text x = index_below (place_in member_names (slice x.at x.end text))
 
--- the code takes the word as a part of the text, and makes a byte of its number
+-- the code takes the word as a part of the text, and its number is a byte
 module _ (text : List ℕ) (x : Symbol) where
   abbrev part : List ℕ
   part = take (x.end - x.at) (drop x.at text)
@@ -131,11 +119,11 @@ module _ (text : List ℕ) (x : Symbol) where
   part-is : part ≡ slice x.at x.end text
   part-is = sym (slice_is x.at x.end text)
 
-  pub function-is : (n : ℕ) → n ≡ place_in function_names part → n % 256 ≡ function_of text x
-  function-is n e = kept n (function_of text x) 24 (e ∙ ap (place_in function_names) part-is) (omega (arith, function-known text x)) (lit≤ tt)
+  pub function-is : {n : ℕ} → n ≡ place_in function_names part → (n ≡ function_of text x) × (n < 256)
+  function-is e = let h = e ∙ ap (place_in function_names) part-is in (h, omega (arith, h, function-known text x))
 
-  pub member_is : (n : ℕ) → n ≡ member_index part → n % 256 ≡ member_of text x
-  member_is n e = kept n (member_of text x) 8 (e ∙ ap member_index part-is) (omega (arith, member-known text x)) (lit≤ tt)
+  pub member-is : {n : ℕ} → n ≡ member_index part → (n ≡ member_of text x) × (n < 256)
+  member-is e = let h = e ∙ ap member_index part-is in (h, omega (arith, h, member-known text x))
 
 -- ---- tests
 
@@ -146,32 +134,40 @@ in-range n m k e = leb-true k m ((and-eq-true_iff (leb n k) (leb k m)).0 e).1
 -- ---- picks
 
 -- the pick at x goes on, and a symbol follows it
-abbrev pub Picked : List ℕ → Symbol → Picking → Type 0
-Picked text x (pick.Pick index next) = (x.at < next.at) × Sound text next
-Picked text x (pick.Bad y) = Unit {0}
-Picked text x pick.Nothing = Unit {0}
+abbrev pub Begun : List ℕ → Symbol → Result Pick Symbol → Type 0
+Begun text x (Ok p) = (x.at < p.next.at) × Sound text p.next
+Begun text x (Err y) = Unit {0}
+
+abbrev pub Picked : List ℕ → Symbol → Result (Option Pick) Symbol → Type 0
+Picked text x (Ok (Some p)) = (x.at < p.next.at) × Sound text p.next
+Picked text x (Ok None) = Unit {0}
+Picked text x (Err y) = Unit {0}
+
+picked-begun : (text : List ℕ) (x : Symbol) (p : Result Pick Symbol) → Begun text x p → Picked text x (begun p)
+picked-begun text x (Ok p) h = h
+picked-begun text x (Err y) h = h
 
 module _ (text : List ℕ) (x : Symbol) (s : Sound text x) where
-  member-sound : x.at < x.end → Picked text x (member_pick_of text x)
+  member-sound : x.at < x.end → Begun text x (member_pick_of text x)
   unfolding member_pick_of
   member-sound h =
       let f = follows-at s in
       let g = follows-at f.sound in
-      by-test (Picked text x) (is_word (symbol_at text x.end)) (λ e. (omega (arith, f.later, f.sound.order, g.later), g.sound)) (λ e. tt)
+      by-test (Begun text x) (is_word (symbol_at text x.end)) (λ e. (omega (arith, f.later, f.sound.order, g.later), g.sound)) (λ e. tt)
 
-  index-sound : x.at < x.end → Picked text x (index_pick_of text x)
+  index-sound : x.at < x.end → Begun text x (index_pick_of text x)
   unfolding index_pick_of
   index-sound h =
       let y = symbol_at text x.end in
       let f = follows-at s in
       let g = follows-at f.sound in
       let k = follows-at g.sound in
-      by-test (Picked text x) (is_index y)
-      (λ e. by-test (Picked text x) (is close_square (symbol_at text y.end)) (λ i. (omega (arith, f.later, f.sound.order, g.later, g.sound.order, k.later), k.sound)) (λ i. tt))
+      by-test (Begun text x) (is_index y)
+      (λ e. by-test (Begun text x) (is close_square (symbol_at text y.end)) (λ i. (omega (arith, f.later, f.sound.order, g.later, g.sound.order, k.later), k.sound)) (λ i. tt))
       (λ e. tt)
 
   pub picking-sound : Picked text x (picking_of text x)
   unfolding picking_of
   picking-sound =
-      by-test (Picked text x) (is dot x) (λ e. member-sound (s.moves (omega (arith, eqb-true x.number 21 e))))
-      (λ _. by-test (Picked text x) (is open_square x) (λ e. index-sound (s.moves (omega (arith, eqb-true x.number 18 e)))) (λ _. tt))
+      by-test (Picked text x) (is dot x) (λ e. picked-begun text x (member_pick_of text x) (member-sound (s.moves (omega (arith, eqb-true x.number 21 e)))))
+      (λ _. by-test (Picked text x) (is open_square x) (λ e. picked-begun text x (index_pick_of text x) (index-sound (s.moves (omega (arith, eqb-true x.number 18 e))))) (λ _. tt))

@@ -11,6 +11,7 @@ use lib.Dec.{eqb, ltb, leb}
 use lib.Ieee.Bits.{is_true}
 use lib.ListN.{length, get_or, take, drop, length-drop, drop_of_length-le}
 use lib.Seq.{slice, take-nil, take_all, drop-cons, drop-drop, length-slice}
+use Rattle.std.specs.List.{filter, prefix_len}
 use Rattle.lexer.specs.Bytes.{run}
 use Rattle.lexer.specs.Spelling.{All}
 use Rattle.lexer.proofs.Law.Runs.{run-cons, run-nil, run-le}
@@ -18,6 +19,32 @@ use Rattle.lexer.proofs.Law.Spelling.{slice_is}
 use Rattle.words.specs.Table.{before}
 use Rattle.text.specs.Parts.{parts_before, lines, bytes_of, parted, start_in, part_at, end_from}
 use Rattle.text.specs.declared.part.Part.{Part}
+
+-- ---- what the iterators count
+
+-- a run is what `take_while` takes
+pub run-prefix : (p : ℕ → Bool) (s : List ℕ) → prefix_len p s ≡ run p s
+unfolding run
+run-prefix p [] = refl
+run-prefix p (x ∷ xs) = go (p x) (run-prefix p xs)
+  where
+    go : (t : Bool) → prefix_len p xs ≡ run p xs → cond t (1 + prefix_len p xs) 0 ≡ elim t [ true ↦ suc (run p xs) | false ↦ 0 ]
+    go true h = omega (arith, h)
+    go false h = refl
+
+-- there is one part more than bytes that part
+length-before : (n x : ℕ) (ps : List (List ℕ)) → 1 + n ≡ length ps → 1 + n ≡ length (before x ps)
+length-before n x [] h = absurd (omega arith)
+length-before n x (p ∷ ps) h = h
+
+pub parted-count : (b : ℕ) (s : List ℕ) → 1 + length (filter (λ x. eqb x b) s) ≡ length (parted b s)
+parted-count b [] = refl
+parted-count b (x ∷ xs) = go (eqb x b) (parted-count b xs)
+  where
+    go : (t : Bool) → 1 + length (filter (λ x. eqb x b) xs) ≡ length (parted b xs) →
+        1 + length (cond t (x ∷ filter (λ x. eqb x b) xs) (filter (λ x. eqb x b) xs)) ≡ length {A = List ℕ} (elim t [ true ↦ [] ∷ parted b xs | false ↦ before x (parted b xs) ])
+    go true h = omega (arith, h)
+    go false h = length-before (length (filter (λ x. eqb x b) xs)) x (parted b xs) h
 
 -- two numbers, by which is the greater
 by_order : {P : Type 0} (a b : ℕ) → (a < b → P) → (b ≤ a → P) → P
@@ -286,9 +313,6 @@ module _ (b : ℕ) (text : List ℕ) (k at end : ℕ) (e : end ≡ end_from b te
   pub next-from : end < length text → From b text (k + 1) (end + 1)
   next-from h = subst (λ (n : ℕ). From b text (k + 1) (n + 1)) (sym e) (from_next b text k at f (subst (λ (n : ℕ). n < length text) e h))
 
-  pub counted : (n : ℕ) → n ≡ k + 1 → length text ≤ end → n ≡ length (parted b text)
-  counted n p h = p ∙ sym (last-is b text k at f (subst (λ (n : ℕ). length text ≤ n) e h))
-
 -- ---- a part by its index
 
 module _ (b : ℕ) (text : List ℕ) where
@@ -303,9 +327,8 @@ module _ (b : ℕ) (text : List ℕ) where
   unfolding part_at
   part_none k at f done i h = rw (le-ltb i (length (parted b text)) (omega (arith, last-is b text k at f done, h)))
 
-  pub found : (k at left index end : ℕ) → k + left ≡ index → left ≤ 0 → From b text k at → end ≡ end_from b text at → ◌≡◌ {A = Part} (record { start = at; end = end }) (part_at b text index)
-  found k at left index end p z f e =
-      let n : k ≡ index = omega arith in
+  pub found : (k at index end : ℕ) → k ≡ index → From b text k at → end ≡ end_from b text at → ◌≡◌ {A = Part} (record { start = at; end = end }) (part_at b text index)
+  found k at index end n f e =
       ap (λ (x : ℕ). record { start = at; end = x }) e ∙ part-there k at f ∙ ap (part_at b text) n
 
   from_each : (i : ℕ) → i < length (parted b text) → (at : ℕ) × From b text i at

@@ -1,17 +1,11 @@
 -- Words by the numbers that a table gives them.
-use mathlib.Core.Path.{◌≡◌, refl, sym, ◌∙◌, ap}
-use mathlib.Core.Bool.{Bool, true, false, ◌&&◌}
+use mathlib.Core.Path.{◌≡◌, ◌∙◌, ap}
+use mathlib.Core.Bool.{true, false}
 use mathlib.Core.List.{List, [], ◌∷◌, map}
-use Prim.Native.Nat.{ℕ, suc, ◌+◌, ◌≤◌}
+use Prim.Native.Nat.{ℕ, suc, ◌+◌}
 use native.Mathlib.Numerals.{add-one}
-use native.Mathlib.Omega.{arith}
 use native.Mathlib.Nat.{add_comm}
-use borrow.Author.Tests.{eqb-true, eqb-false}
-use lib.Dec.{eqb}
-use lib.ListN.{length, take, drop}
-use lib.Seq.{take_all}
-use Rattle.lexer.specs.Bytes.{begins, same, place_in, ascii}
-use Rattle.lexer.proofs.Law.Runs.{by-test, word_same, word-other}
+use Rattle.lexer.specs.Bytes.{same, place_in, ascii}
 use Rattle.words.specs.Table.{folded}
 use Rattle.words.proofs.Law.Words.{as-it-is}
 use Rattle.text.specs.Word.{flag_words}
@@ -19,25 +13,6 @@ use Rattle.text.specs.Word.{flag_words}
 -- the number of a word as it stands
 pub numbered : (n : ℕ) (ws : List (List ℕ)) (w : List ℕ) → n ≡ place_in ws (map (folded false) w) → n ≡ place_in ws w
 numbered n ws w e = e ∙ ap (place_in ws) (as-it-is w)
-
--- a word by its length and its first bytes
-pub by_bytes : (w v : List ℕ) (t : Bool) → t ≡ begins v w → (eqb (length w) (length v) && t) ≡ same w v
-by_bytes w v t b = go (eqb (length w) (length v)) refl ∙ ap (λ (u : List ℕ). same u v) (take_all (length w) w (omega arith))
-  where
-    go : (s : Bool) → eqb (length w) (length v) ≡ s → (s && t) ≡ same (take (length w) w) v
-    go true q = b ∙ word_same (length w) w v (eqb-true (length w) (length v) q) (omega arith)
-    go false q = word-other (length w) w v (eqb-false (length w) (length v) q) (omega arith)
-
--- a number that a table gives is at most the count of its words
-place-most : (ws : List (List ℕ)) (w : List ℕ) → place_in ws w ≤ length ws
-place-most [] w = omega arith
-place-most (v ∷ ws) w = by-test (λ (n : ℕ). n ≤ length (v ∷ ws)) (same w v) (λ e. omega arith) (λ e. omega (arith, place-most ws w))
-
-pub few : (n : ℕ) (ws : List (List ℕ)) (w : List ℕ) → n ≡ place_in ws w → n ≤ length ws
-few n ws w e = omega (arith, e, place-most ws w)
-
-pub dashed : (w : List ℕ) (t : Bool) → t ≡ begins (45 ∷ []) (drop 0 w) → same w (45 ∷ []) ≡ (eqb (length w) 1 && t)
-dashed w t e = sym (by_bytes w (45 ∷ []) t e)
 
 -- the flags: `-` first, and then those of letters
 module _ (w : List ℕ) where

@@ -1,4 +1,5 @@
 -- What is read at a place where a node was written.
+use Rattle.std.specs.Prelude.{None, Some}
 use mathlib.Core.Bool.{cond}
 use mathlib.Core.Path.{◌≡◌}
 use mathlib.Core.List.{List}
@@ -11,7 +12,6 @@ use borrow.Author.Tests.{ne_eqb, lt-ltb, le-ltb}
 use Rattle.tree.specs.Slots.{tags, links, word, tag_at, left_at, variable_tag, first_function_tag, function_tag, question_tag, colon_tag, operator_tag, comma_tag, pick_tag}
 use Rattle.tree.specs.Node.{node_at, argument_at}
 use Rattle.tree.specs.declared.node.Node.TheVariants.{Literal, Variable, Unary, Binary, Conditional, Bare, Call, Pick}
-use Rattle.tree.specs.declared.node.Argument.TheVariants.{Last, Next}
 use Rattle.tree.proofs.Law.Words.{tag_word, link-word}
 
 module _ (v : List ℕ) (p : ℕ) where
@@ -67,10 +67,10 @@ module _ (v : List ℕ) (p : ℕ) where
       let t = pick_tag i in
       simp (h, tag_word t x (omega arith), link-word t x m, le-ltb t 40 (omega arith), le-ltb t 56 (omega arith), add-sub_cancel_left 56 i)
 
-  pub argument-next : (l r : ℕ) → get_or v p 0 ≡ word comma_tag r → left_at v p ≡ l → r < links → argument_at v p ≡ Next l r
+  pub argument-next : (l r : ℕ) → get_or v p 0 ≡ word comma_tag r → left_at v p ≡ l → r < links → argument_at v p ≡ Some (record { first = l; rest = r })
   unfolding argument_at
   argument-next l r h g m = simp (h, g, tag_word 55 r (omega arith), link-word 55 r m)
 
-  pub argument-last : (tag_at v p ≡ comma_tag → ⊥) → argument_at v p ≡ Last
+  pub argument-last : (tag_at v p ≡ comma_tag → ⊥) → argument_at v p ≡ None
   unfolding argument_at
   argument-last h = rw (ne_eqb (tag_at v p) 55 h)

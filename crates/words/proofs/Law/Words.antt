@@ -1,44 +1,36 @@
 -- Words of a table, and their places in it.
 use mathlib.Core.Path.{◌≡◌, refl, sym, ◌∙◌, ap, ap₂}
-use mathlib.Core.Bool.{Bool, true, false, cond, ◌&&◌}
+use mathlib.Core.Bool.{Bool, true, false, cond, ◌&&◌, and-false}
 use mathlib.Core.List.{List, [], ◌∷◌, map}
-use mathlib.Core.Logic.{◌⊎◌, ⊎_elim}
-use Prim.Native.Nat.{ℕ, zero, suc, ◌+◌, ◌-◌, ◌<◌, ◌≤◌}
+use Prim.Native.Nat.{ℕ, suc, ◌+◌, ◌-◌, ◌<◌, ◌≤◌}
 use native.Mathlib.Nat.{add-zero}
 use native.Mathlib.Omega.{arith}
 use borrow.Author.Tests.{eqb-true, eqb-false, eq-eqb, ne_eqb}
 use lib.Dec.{eqb}
-use lib.ListN.{length, get_or, take, drop, drop_of_length-le, length-map}
+use lib.ListN.{length, get_or, take, drop, drop_of_length-le}
 use lib.Seq.{drop-cons, drop-drop}
-use Rattle.lexer.specs.Bytes.{in_class, is_name_byte, run, begins, same, place_in}
+use Rattle.lexer.specs.Bytes.{in_class, is_name_byte, run, same, place_in}
 use Rattle.lexer.specs.declared.bytes.Class.TheVariants.{Name}
-use Rattle.lexer.proofs.Law.Runs.{run-cons, run-nil, run-le, run-within, word_more, word-stop, word_end, word_same, word-other}
+use Rattle.lexer.proofs.Law.Runs.{run-cons, run-nil, run-within}
+use Rattle.std.specs.List.{zip, list_all}
 use Rattle.words.specs.Table.{folded, before, words_in}
 
--- ---- a word whose bytes are mapped, at a place of a text
+-- ---- a word of a table and a word whose bytes are mapped, compared byte by byte
 
-map_at : (f : ℕ → ℕ) (bs : List ℕ) (i : ℕ) → i < length bs → get_or (map f bs) i 0 ≡ f (get_or bs i 0)
-map_at f [] i h = absurd (omega arith)
-map_at f (b ∷ bs) zero h = refl
-map_at f (b ∷ bs) (suc i) h = map_at f bs i (omega arith)
+abbrev pub agree : (ℕ → ℕ) → List ℕ → List ℕ → Bool
+agree f v w = list_all (λ p. eqb p.0 (f p.1)) (zip v w)
 
-module _ (f : ℕ → ℕ) (text word : List ℕ) (at i : ℕ) where
-  module _ (b : ℕ) (h : i < length word) (q : b ≡ f (get_or word i 0)) where
-    inside : i < length (map f word)
-    inside = rw (length-map word f) h
+pub alike : (f : ℕ → ℕ) (v w : List ℕ) → length v ≡ length w → agree f v w ≡ same v (map f w)
+alike f [] [] h = refl
+alike f [] (y ∷ w) h = absurd (omega arith)
+alike f (x ∷ v) [] h = absurd (omega arith)
+alike f (x ∷ v) (y ∷ w) h = ap (λ t. eqb x (f y) && t) (alike f v w (omega arith))
 
-    mapped : (t : Bool) → begins (b ∷ []) (drop at text) ≡ t → begins (get_or (map f word) i 0 ∷ []) (drop at text) ≡ t
-    mapped t e = rw (map_at f word i h, sym q) e
-
-    pub map_more : begins (b ∷ []) (drop at text) ≡ true →
-        begins (drop (i + 1) (map f word)) (drop (at + 1) text) ≡ begins (drop i (map f word)) (drop at text)
-    map_more e = word_more text (map f word) at i inside (mapped true e)
-
-    pub map-stop : begins (b ∷ []) (drop at text) ≡ false → false ≡ begins (drop i (map f word)) (drop at text)
-    map-stop e = word-stop text (map f word) at i inside (mapped false e)
-
-  pub map-end : length word ≤ i → true ≡ begins (drop i (map f word)) (drop at text)
-  map-end h = word_end text (map f word) at i (rw (length-map word f) h)
+pub other : (f : ℕ → ℕ) (v w : List ℕ) → (length v ≡ length w → ⊥) → false ≡ same v (map f w)
+other f [] [] h = absurd (h refl)
+other f [] (y ∷ w) h = refl
+other f (x ∷ v) [] h = refl
+other f (x ∷ v) (y ∷ w) h = sym (rw (sym (other f v w (λ e. h (omega arith)))) (and-false (eqb x (f y))))
 
 -- ---- `same` does not ask for an order
 
@@ -81,9 +73,6 @@ module _ (table : List ℕ) (at end : ℕ) (h : at < length table) (q : end ≡ 
   pub ends-within : end ≤ length table
   ends-within = rw q (run-within (in_class Name) table at (omega (arith, h)))
 
-  size : end - at ≤ length (drop at table)
-  size = omega (arith, q, run-le (in_class Name) (drop at table))
-
   words-at : words_in (drop at table) ≡ take (end - at) (drop at table) ∷ words_in (drop (end + 1) table)
   words-at =
       let n : run (in_class Name) (drop at table) ≡ end - at = omega (arith, q) in
@@ -91,26 +80,16 @@ module _ (table : List ℕ) (at end : ℕ) (h : at < length table) (q : end ≡ 
       let s = drop-cons table at 0 h in
       ap words_in s ∙ first_word (get_or table at 0) (drop (suc at) table) ∙ rw (sym s, n, drop-drop (suc (end - at)) at table, m)
 
-  module _ (f : ℕ → ℕ) (word : List ℕ) where
-    -- where the lengths are the same the bytes say whether the words are, and else they are not
-    alike : end - at ≡ length word → (t : Bool) → begins (map f word) (drop at table) ≡ t → same (take (end - at) (drop at table)) (map f word) ≡ t
-    alike l t e = sym (word_same (end - at) (drop at table) (map f word) (rw (length-map word f) l) size) ∙ e
+  -- a number plus a word's place in the rest of the table, by whether the first word there is that one
+  module _ (w : List ℕ) (number : ℕ) {r : Bool} (e : r ≡ same (take (end - at) (drop at table)) w) where
+    place_at : number + place_in (words_in (drop at table)) w ≡ number + cond r 0 (suc (place_in (words_in (drop (end + 1) table)) w))
+    place_at = rw (words-at, same-sym w (take (end - at) (drop at table)), sym e)
 
-    other : (end - at ≡ length word → ⊥) → same (take (end - at) (drop at table)) (map f word) ≡ false
-    other l = sym (word-other (end - at) (drop at table) (map f word) (rw (length-map word f) l) size)
+    pub found : r ≡ true → number ≡ number + place_in (words_in (drop at table)) w
+    found k = sym (rw k at place_at ∙ add-zero number)
 
-    -- a number plus the word's place in the rest of the table, by whether the words are the same
-    place_at : (number : ℕ) (t : Bool) → same (take (end - at) (drop at table)) (map f word) ≡ t →
-        number + place_in (words_in (drop at table)) (map f word) ≡ number + cond t 0 (suc (place_in (words_in (drop (end + 1) table)) (map f word)))
-    place_at number t e = rw (words-at, same-sym (map f word) (take (end - at) (drop at table)), e)
-
-    pub found : (number : ℕ) → end - at ≡ length word → begins (map f word) (drop at table) ≡ true →
-        number ≡ number + place_in (words_in (drop at table)) (map f word)
-    found number l e = sym (place_at number true (alike l true e) ∙ add-zero number)
-
-    pub passed : (number : ℕ) → ((end - at ≡ length word) × (begins (map f word) (drop at table) ≡ false)) ⊎ (end - at ≡ length word → ⊥) →
-        number + 1 + place_in (words_in (drop (end + 1) table)) (map f word) ≡ number + place_in (words_in (drop at table)) (map f word)
-    passed number k = omega (arith, place_at number false (⊎_elim (λ m. alike m.0 false m.1) other k))
+    pub passed : r ≡ false → number + 1 + place_in (words_in (drop (end + 1) table)) w ≡ number + place_in (words_in (drop at table)) w
+    passed k = let h : number + place_in (words_in (drop at table)) w ≡ number + suc (place_in (words_in (drop (end + 1) table)) w) = rw k at place_at in omega arith
 
 pub past : (table w : List ℕ) (at number : ℕ) → length table ≤ at → number ≡ number + place_in (words_in (drop at table)) w
 past table w at number h = rw (drop_of_length-le table h) (sym (add-zero number))

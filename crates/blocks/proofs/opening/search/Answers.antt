@@ -3,30 +3,22 @@ use native.Mathlib.Omega.{arith}
 use Rattle.blocks.proofs.Law.Searching.{not_found, order, found_it, on-next}
 use Rattle.blocks.proofs.opening.search.Goals as goal
 
-pub loop-end-init : goal.loop-end-init
-loop-end-init c =
-    record { same = refl; ended = c.end-end.ensures }
+pub loop-from-init : goal.loop-from-init
+loop-from-init c =
+    refl
 
-pub slice_bounds-is_feature-count : goal.slice_bounds-is_feature-count
-slice_bounds-is_feature-count c =
-    order _ _ _ _ c.loop-end.invariant c.loop-end-test.true
-
-pub slice_bounds-is_feature-start : goal.slice_bounds-is_feature-start
-slice_bounds-is_feature-start c =
-    order _ _ _ _ c.loop-end.invariant c.loop-end-test.true
+pub returns-then-window-end : goal.returns-then-window-end
+returns-then-window-end c =
+    not_found _ _ _ _ c.loop-from.invariant c.end-end.ensures c.if-window-end.true
 
 pub returns-then-is_feature : goal.returns-then-is_feature
 returns-then-is_feature c =
-    found_it _ _ _ _ c.loop-end.invariant c.loop-end-test.true _ c.is_feature.ensures c.if-is_feature.true
+    found_it _ _ _ _ c.loop-from.invariant c.end-end.ensures c.if-window-end.false _ c.is_feature.ensures c.if-is_feature.true
 
-pub loop-end-smaller : goal.loop-end-smaller
-loop-end-smaller c =
-    omega (arith, order _ _ _ _ c.loop-end.invariant c.loop-end-test.true)
+pub loop-from-smaller : goal.loop-from-smaller
+loop-from-smaller c =
+    omega (arith, order _ _ _ _ c.loop-from.invariant c.end-end.ensures c.if-window-end.false)
 
-pub loop-end-preserved : goal.loop-end-preserved
-loop-end-preserved c =
-    on-next _ _ _ _ c.loop-end.invariant c.loop-end-test.true _ c.is_feature.ensures c.if-is_feature.false _ c.end-end-in-loop-end.ensures
-
-pub returns : goal.returns
-returns c =
-    not_found _ _ _ _ c.loop-end.invariant c.loop-end-test.false
+pub loop-from-preserved : goal.loop-from-preserved
+loop-from-preserved c =
+    on-next _ _ _ _ c.loop-from.invariant c.end-end.ensures c.if-window-end.false _ c.is_feature.ensures c.if-is_feature.false

@@ -2,10 +2,10 @@ use Rattle.cases.proofs.Law.Lines.{digit-decimal, digit-letter, digit-below, dig
 use Rattle.cases.proofs.line.digit.Goals as goal
 
 pub returns-in-48-to-57 : goal.returns-in-48-to-57
-returns-in-48-to-57 c = digit-decimal _ c.in-48-to-57.if-b-lt48-own.false c.in-48-to-57.if-b-lt58-own.true
+returns-in-48-to-57 c = rw c.from.ensures (digit-decimal _ c.in-48-to-57.if-b-lt48-own.false c.in-48-to-57.if-b-lt58-own.true)
 
 pub returns-in-97-to-102 : goal.returns-in-97-to-102
-returns-in-97-to-102 c = digit-letter _ c.in-97-to-102.if-b-lt97-own.false c.in-97-to-102.if-b-lt103-own.true
+returns-in-97-to-102 c = rw c.from-in-97-to-102.ensures (digit-letter _ c.in-97-to-102.if-b-lt97-own.false c.in-97-to-102.if-b-lt103-own.true)
 
 pub returns-in_default : goal.returns-in_default
 returns-in_default c = digit-below _ c.in_default.if-b-lt48-own.true

@@ -1,15 +1,14 @@
-use Rattle.std.proofs.Common.{refl, ◌∙◌, arith}
-use Rattle.cases.proofs.Law.Lines.{number_more, number-stop, number_past}
+use Rattle.std.proofs.Common.{◌<◌, ◌≤◌, length, ◌∙◌, arith}
+use lib.Seq.{slice}
+use Rattle.cases.proofs.Law.Lines.{number_more, number_past}
 use Rattle.cases.proofs.line.number.Goals as goal
 
-pub loop-at-init : goal.loop-at-init
-loop-at-init c = (omega arith, refl)
-
-pub returns-then-to-at : goal.returns-then-to-at
-returns-then-to-at c = number-stop _ _ _ _ c.loop-at.invariant.0 c.if-to-at.true ∙ c.loop-at.invariant.1
-
-pub loop-at-preserved : goal.loop-at-preserved
-loop-at-preserved c = (omega arith, rw c.push-value.ensures (number_more _ _ _ _ c.loop-at-test.true c.if-to-at.false ∙ c.loop-at.invariant.1))
+pub loop-b-preserved : goal.loop-b-preserved
+loop-b-preserved c =
+    let h : c.loop-b.b-index < length (slice c.args.from c.args.to c.args.line.now) = rw c.part-b-items.ensures at c.loop-b-test.true in
+    (omega arith, rw (c.push-value.ensures, c.part-b-items.ensures) (number_more _ _ _ h ∙ c.loop-b.invariant.1))
 
 pub returns : goal.returns
-returns c = number_past c.args.line.now _ c.args.to _ c.loop-at.invariant.0 c.loop-at-test.false ∙ c.loop-at.invariant.1
+returns c =
+    let h : length (slice c.args.from c.args.to c.args.line.now) ≤ c.loop-b.b-index = rw c.part-b-items.ensures at c.loop-b-test.false in
+    number_past _ _ _ c.loop-b.invariant.0 h ∙ c.loop-b.invariant.1

@@ -1,23 +1,10 @@
+use Rattle.kind.specs.Set.{set_of, single_of}
 use Rattle.checker.proofs.check.conditional.Goals as goal
 
-pub returns-in-Refused : goal.returns-in-Refused
-returns-in-Refused c = rw c.in-Refused.is
+pub returns-then-is_within : goal.returns-then-is_within
+unfolding set_of single_of
+returns-then-is_within c = rw (c.union.ensures, ← c.is_within.ensures, c.if-is_within.true)
 
-pub returns-in-Refused-first : goal.returns-in-Refused-first
-returns-in-Refused-first c = rw (c.in-Refused-first.is, c.in-Accepted.is)
-
-pub returns-in-Refused-second : goal.returns-in-Refused-second
-returns-in-Refused-second c =
-    rw (
-      c.in-Refused-second.is,
-      c.in-Accepted-first.is,
-      c.in-Accepted.is,
-    )
-
-pub returns-in-Accepted-second : goal.returns-in-Accepted-second
-returns-in-Accepted-second c =
-    rw (
-      c.in-Accepted-second.is,
-      c.in-Accepted-first.is,
-      c.in-Accepted.is,
-    ) c.branches.ensures
+pub returns-else-is_within : goal.returns-else-is_within
+unfolding set_of single_of
+returns-else-is_within c = rw (c.wrong.ensures, ← c.is_within.ensures, c.if-is_within.false)

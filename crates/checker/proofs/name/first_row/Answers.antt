@@ -1,19 +1,15 @@
-use mathlib.Core.Path.{refl, sym, ◌∙◌}
+use mathlib.Core.Path.{◌≡◌, sym, ap, ◌∙◌}
 use native.Mathlib.Omega.{arith}
+use Rattle.checker.specs.Inner.{row_below}
 use Rattle.checker.proofs.Law.Names.{row-found, row-passed, row-behind}
 use Rattle.checker.proofs.name.first_row.Goals as goal
 
-pub loop-row-init : goal.loop-row-init
-loop-row-init c = (omega arith, refl)
-
 pub returns-then-has_name : goal.returns-then-has_name
-returns-then-has_name c = row-found _ _ _ c.loop-row-test.true (sym c.has_name.ensures ∙ c.if-has_name.true) ∙ c.loop-row.invariant.1
-
-pub loop-row-smaller : goal.loop-row-smaller
-loop-row-smaller c = omega arith
+returns-then-has_name c =
+    row-found _ _ _ c.loop-row-test.true (sym c.has_name.ensures ∙ c.if-has_name.true) ∙ ap (row_below c.args.to) c.loop-row.invariant
 
 pub loop-row-preserved : goal.loop-row-preserved
-loop-row-preserved c = (omega arith, row-passed _ _ _ c.loop-row-test.true (sym c.has_name.ensures ∙ c.if-has_name.false) ∙ c.loop-row.invariant.1)
+loop-row-preserved c = row-passed _ _ _ c.loop-row-test.true (sym c.has_name.ensures ∙ c.if-has_name.false) ∙ c.loop-row.invariant
 
 pub returns : goal.returns
-returns c = row-behind _ _ _ c.loop-row.invariant.0 c.loop-row-test.false ∙ c.loop-row.invariant.1
+returns c = let e : c.loop-row.row ≡ c.args.to = omega arith in row-behind _ _ _ e ∙ ap (row_below c.args.to) c.loop-row.invariant

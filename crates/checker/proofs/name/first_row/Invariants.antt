@@ -1,13 +1,10 @@
 use mathlib.Core.Path.{◌≡◌}
-use Prim.Native.Nat.{◌-◌, ◌≤◌}
+use Prim.Native.Nat.{◌-◌}
 use Rattle.lexer.specs.Bytes.{same}
 use Rattle.checker.specs.Name.{row_at, first_row}
 use Rattle.checker.proofs.name.first_row.Given as goal
 
--- `first_row` goes from row to row. The invariant: the first row from the present one on is the first of all.
+-- The invariant: the first row from the present one on is the first of all.
 abbrev pub invariant-loop-row : goal.invariant-loop-row
 invariant-loop-row l =
-    (l.row ≤ l.to) × (first_row (λ i. same l.name (row_at l.head l.names i)) (l.to - l.row) l.row ≡ first_row (λ i. same l.name (row_at l.head l.names i)) (l.to - l.from) l.from)
-
-abbrev pub decreases-loop-row : goal.decreases-loop-row
-decreases-loop-row l = l.to - l.row
+    first_row (λ i. same l.name (row_at l.head l.names i)) (l.to - l.row) l.row ≡ first_row (λ i. same l.name (row_at l.head l.names i)) (l.to - l.from) l.from

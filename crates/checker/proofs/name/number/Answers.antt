@@ -1,11 +1,17 @@
-use Rattle.checker.proofs.Law.Names.{define-found, define-missed, in-define, in-style}
+use mathlib.Core.Path.{◌≡◌, ◌∙◌}
+use Rattle.std.specs.Option.{unwrap_or}
+use Rattle.std.proofs.Common.{rules}
+use Rattle.lexer.specs.Bytes.{same}
+use Rattle.checker.specs.Name.{row_at, property_row, row_in}
+use Rattle.checker.proofs.Law.Names.{define-or}
 use Rattle.checker.proofs.name.number.Goals as goal
 
 pub returns-in-Define : goal.returns-in-Define
-returns-in-Define c = in-define _ _ _ c.in-Define.is c.property_row.ensures
+unfolding row_in
+returns-in-Define c = rw c.in-Define.is c.property_row.ensures
 
-pub returns-then-row-lt-UNDECLARED : goal.returns-then-row-lt-UNDECLARED
-returns-then-row-lt-UNDECLARED c = in-style _ _ _ c.in-Style.is (define-found _ _ c.first_row-row.ensures c.if-row-lt-UNDECLARED.true)
-
-pub returns-else-row-lt-UNDECLARED : goal.returns-else-row-lt-UNDECLARED
-returns-else-row-lt-UNDECLARED c = in-style _ _ _ c.in-Style.is (define-missed _ _ c.first_row-row.ensures c.if-row-lt-UNDECLARED.false _ c.property_row-else-row-lt-UNDECLARED.ensures)
+pub returns-in-Style : goal.returns-in-Style
+returns-in-Style c =
+    let s = c.args in
+    let e : c.unwrap_or_else.result ≡ unwrap_or c.first_row.result (property_row (λ i. same s.name.now (row_at s.head.now s.names.now i))) = search rules in
+    rw c.in-Style.is (e ∙ define-or _ _ c.first_row.ensures)

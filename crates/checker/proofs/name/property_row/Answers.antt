@@ -1,8 +1,6 @@
-use Rattle.checker.proofs.Law.Names.{property-found, property-missed}
+use mathlib.Core.Path.{◌∙◌}
+use Rattle.checker.proofs.Law.Names.{property-or}
 use Rattle.checker.proofs.name.property_row.Goals as goal
 
-pub returns-then-row-lt-MOST_PROPERTIES : goal.returns-then-row-lt-MOST_PROPERTIES
-returns-then-row-lt-MOST_PROPERTIES c = property-found _ _ c.first_row-row.ensures c.if-row-lt-MOST_PROPERTIES.true
-
-pub returns-else-row-lt-MOST_PROPERTIES : goal.returns-else-row-lt-MOST_PROPERTIES
-returns-else-row-lt-MOST_PROPERTIES c = property-missed _ _ c.first_row-row.ensures c.if-row-lt-MOST_PROPERTIES.false
+pub returns : goal.returns
+returns c = c.unwrap_or.ensures ∙ property-or _ _ c.first_row.ensures

@@ -11,7 +11,7 @@ overflow_sub-count c =
 
 pub returns-then-count-properties : goal.returns-then-count-properties
 returns-then-count-properties c =
-    rw c.refused.ensures (other-count _ _ _ _ _ _ c.count.ensures c.if-count-properties.true)
+    rw c.refused.ensures (other-count _ _ _ _ _ c.count.ensures c.if-count-properties.true)
 
 pub overflow_add-at : goal.overflow_add-at
 overflow_add-at c =
@@ -19,26 +19,26 @@ overflow_add-at c =
 
 pub loop-i-init : goal.loop-i-init
 loop-i-init c =
-    fields-start _ _ _ _ _ c.count.ensures c.if-count-properties.false c.end-at.ensures _ _
+    fields-start _ _ _ _ _ c.count.ensures c.if-count-properties.false c.end-at.ensures _
 
 pub read-requires : goal.read-requires
 read-requires c =
-    let h = at_field _ _ _ _ _ _ _ _ _ c.loop-i.invariant c.loop-i-test.true in
+    let h = at_field _ _ _ _ _ _ _ c.loop-i.invariant c.loop-i-test.true in
     let line = c.args.line.now in
     (omega (arith, c.end-end.ensures, end-from 9 line c.loop-i.at), omega (arith, c.end-end.ensures, end-within 9 line c.loop-i.at h))
 
-pub returns-in-Unread : goal.returns-in-Unread
-returns-in-Unread c =
-    rw c.refused-in-Unread.ensures (field-wrong _ _ _ _ _ _ _ _ _ c.loop-i.invariant _ _ c.loop-i-test.true c.end-end.ensures (c.conforming.ensures ∙ ap₂ conformed c.set_at.ensures c.read.ensures) c.in-Unread.is)
+pub returns-in_default : goal.returns-in_default
+returns-in_default c =
+    rw c.refused-in_default.ensures (field-wrong _ _ _ _ _ _ _ c.loop-i.invariant _ _ c.loop-i-test.true c.end-end.ensures (c.conforming.ensures ∙ ap₂ conformed c.set_at.ensures c.read.ensures) c.in_default.is)
 
 pub overflow_add-at-in-loop-i : goal.overflow_add-at-in-loop-i
 overflow_add-at-in-loop-i c =
-    omega (arith, c.requires, c.end-end.ensures, end-within 9 c.args.line.now c.loop-i.at (at_field _ _ _ _ _ _ _ _ _ c.loop-i.invariant c.loop-i-test.true))
+    omega (arith, c.requires, c.end-end.ensures, end-within 9 c.args.line.now c.loop-i.at (at_field _ _ _ _ _ _ _ c.loop-i.invariant c.loop-i-test.true))
 
 pub loop-i-preserved : goal.loop-i-preserved
 loop-i-preserved c =
-    field_stored _ _ _ _ _ _ _ _ _ c.loop-i.invariant _ _ c.loop-i-test.true c.end-end.ensures (c.conforming.ensures ∙ ap₂ conformed c.set_at.ensures c.read.ensures) _ _ _ c.in-Read.is c.store.ensures.0 c.store.ensures.1
+    field_stored _ _ _ _ _ _ _ c.loop-i.invariant _ _ c.loop-i-test.true c.end-end.ensures (c.conforming.ensures ∙ ap₂ conformed c.set_at.ensures c.read.ensures) _ _ c.in-Some.is c.store.ensures
 
 pub returns : goal.returns
 returns c =
-    all-stored _ _ _ _ _ _ _ _ _ c.loop-i.invariant c.loop-i-test.false
+    all-stored _ _ _ _ _ _ _ c.loop-i.invariant c.loop-i-test.false

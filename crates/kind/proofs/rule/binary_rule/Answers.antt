@@ -1,32 +1,42 @@
-use mathlib.Core.Path.{◌∙◌}
+use mathlib.Core.Path.{◌≡◌, refl, sym}
+use mathlib.Core.Bool.{Bool, true}
+use mathlib.Core.List.{List, [], ◌∷◌}
+use lib.Dec.{T, leb}
+use Rattle.kind.specs.Kind.{dimension_of}
+use Rattle.kind.specs.Rule.{of_binary, rule_of}
+use Rattle.kind.specs.declared.kind.Kind.{Kind}
+use Rattle.kind.specs.declared.kind.Kind.TheVariants.{Undefined, Null, Boolean, Number, String, Vec2, Vec3, Vec4}
+use Rattle.kind.specs.declared.operation.Binary.{Binary}
 use Rattle.kind.specs.declared.operation.Binary.TheVariants.{Add, Subtract, Multiply, Divide, Remainder, Min, Max}
-use Rattle.kind.proofs.Law.Rules.{pair-law}
+use Rattle.kind.proofs.Law.Signatures.{each, none-takes}
 use Rattle.kind.proofs.rule.binary_rule.Goals as goal
 
-pub returns-in-Add : goal.returns-in-Add
-returns-in-Add c =
-    rw c.in-Add.is (c.pair_rule.ensures ∙ pair-law Add _ _)
+-- the first operand is a Number or a vector
+abbrev numeric_first : List Kind → Bool
+numeric_first [] = true
+numeric_first (k ∷ ks) = leb 1 (dimension_of k)
 
-pub returns-in-Subtract : goal.returns-in-Subtract
-returns-in-Subtract c =
-    rw c.in-Subtract.is (c.pair_rule-in-Subtract.ensures ∙ pair-law Subtract _ _)
+all_numeric : (f : Binary) → T (each numeric_first (of_binary f))
+all_numeric Add = tt
+all_numeric Subtract = tt
+all_numeric Multiply = tt
+all_numeric Divide = tt
+all_numeric Remainder = tt
+all_numeric Min = tt
+all_numeric Max = tt
 
-pub returns-in-Multiply : goal.returns-in-Multiply
-returns-in-Multiply c =
-    rw c.in-Multiply.is (c.pair_rule-in-Multiply.ensures ∙ pair-law Multiply _ _)
+not_numeric : (k : Kind) → (k ≡ Number → ⊥) → (k ≡ Vec2 → ⊥) → (k ≡ Vec3 → ⊥) → (k ≡ Vec4 → ⊥) → T (leb 1 (dimension_of k)) → ⊥
+not_numeric Undefined n a b c t = t
+not_numeric Null n a b c t = t
+not_numeric Boolean n a b c t = t
+not_numeric Number n a b c t = n refl
+not_numeric String n a b c t = t
+not_numeric Vec2 n a b c t = a refl
+not_numeric Vec3 n a b c t = b refl
+not_numeric Vec4 n a b c t = c refl
 
-pub returns-in-Divide : goal.returns-in-Divide
-returns-in-Divide c =
-    rw c.in-Divide.is (c.pair_rule-in-Divide.ensures ∙ pair-law Divide _ _)
-
-pub returns-in-Remainder : goal.returns-in-Remainder
-returns-in-Remainder c =
-    rw c.in-Remainder.is (c.pair_rule-in-Remainder.ensures ∙ pair-law Remainder _ _)
-
-pub returns-in-Min : goal.returns-in-Min
-returns-in-Min c =
-    rw c.in-Min.is (c.pair_rule-in-Min.ensures ∙ pair-law Min _ _)
-
-pub returns-in-Max : goal.returns-in-Max
-returns-in-Max c =
-    rw c.in-Max.is (c.pair_rule-in-Max.ensures ∙ pair-law Max _ _)
+pub returns-in_default-6 : goal.returns-in_default-6
+unfolding rule_of
+returns-in_default-6 c =
+    let d = c.in_default in
+    sym (none-takes numeric_first (of_binary c.args.f) (c.args.k ∷ c.args.l ∷ []) (all_numeric c.args.f) (not_numeric c.args.k d.not-Number-1 d.not-Vec2-1 d.not-Vec3-1 d.not-Vec4-1))

@@ -10,13 +10,13 @@ returns c =
     let s = c.args in
     c.eq.ensures
     ∙ pointwise-same
-    (take (c.least-stop.result - c.least-begin.result) (drop c.least-begin.result s.a.now))
-    (take (c.least-last.result - c.least-first.result) (drop c.least-first.result s.b.now))
+    (take (c.min-stop.result - c.min-begin.result) (drop c.min-begin.result s.a.now))
+    (take (c.min-last.result - c.min-first.result) (drop c.min-first.result s.b.now))
     ∙ rw (
-      c.least-first.ensures.is,
-      c.least-last.ensures.is,
-      c.least-begin.ensures.is,
-      c.least-stop.ensures.is,
+      c.min-first.ensures,
+      c.min-last.ensures,
+      c.min-begin.ensures,
+      c.min-stop.ensures,
       part_cut s.start s.end s.a.now,
       part_cut s.from s.to s.b.now,
     )

@@ -14,6 +14,6 @@ pub returns-then-is_word_start : goal.returns-then-is_word_start
 returns-then-is_word_start c =
     c.word_at.ensures ∙ other_word c.args.text.now _ c.requires (sym c.is_quote.ensures ∙ c.if-is_quote.false) c.if-b-eq36.false (sym c.is_word_start.ensures ∙ c.if-is_word_start.true)
 
-pub returns : goal.returns
-returns c =
+pub returns-else-is_word_start : goal.returns-else-is_word_start
+returns-else-is_word_start c =
     c.punctuator_at.ensures ∙ other-punctuator c.args.text.now _ c.requires (sym c.is_quote.ensures ∙ c.if-is_quote.false) c.if-b-eq36.false (sym c.is_word_start.ensures ∙ c.if-is_word_start.false)

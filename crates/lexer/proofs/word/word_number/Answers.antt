@@ -1,30 +1,23 @@
-use mathlib.Core.Path.{sym, ◌∙◌}
+use Rattle.lexer.proofs.Law.Texts.{told}
 use Rattle.lexer.proofs.word.word_number.Goals as goal
 
-pub returns-then-is_word : goal.returns-then-is_word
-returns-then-is_word c =
-    rw (sym c.is_word.ensures ∙ c.if-is_word.true)
+pub returns-then-eq : goal.returns-then-eq
+returns-then-eq c = rw (told c.args.word.now c.eq.ensures c.as_slice.ensures c.if-eq.true)
 
-pub returns-then-is_word-2 : goal.returns-then-is_word-2
-returns-then-is_word-2 c =
-    rw (sym c.is_word.ensures ∙ c.if-is_word.false, sym c.is_word-2.ensures ∙ c.if-is_word-2.true)
+pub returns-then-eq-2 : goal.returns-then-eq-2
+returns-then-eq-2 c = rw (told c.args.word.now c.eq.ensures c.as_slice.ensures c.if-eq.false, told c.args.word.now c.eq-else-eq.ensures c.as_slice-else-eq.ensures c.if-eq-2.true)
 
-pub returns-then-is_word-3 : goal.returns-then-is_word-3
-returns-then-is_word-3 c =
-    rw (sym c.is_word.ensures ∙ c.if-is_word.false, sym c.is_word-2.ensures ∙ c.if-is_word-2.false, sym c.is_word-3.ensures ∙ c.if-is_word-3.true)
+pub returns-then-eq-3 : goal.returns-then-eq-3
+returns-then-eq-3 c = rw (told c.args.word.now c.eq.ensures c.as_slice.ensures c.if-eq.false, told c.args.word.now c.eq-else-eq.ensures c.as_slice-else-eq.ensures c.if-eq-2.false, told c.args.word.now c.eq-else-eq-2.ensures c.as_slice-else-eq-2.ensures c.if-eq-3.true)
 
-pub returns-then-is_word-4 : goal.returns-then-is_word-4
-returns-then-is_word-4 c =
-    rw (sym c.is_word.ensures ∙ c.if-is_word.false, sym c.is_word-2.ensures ∙ c.if-is_word-2.false, sym c.is_word-3.ensures ∙ c.if-is_word-3.false, sym c.is_word-4.ensures ∙ c.if-is_word-4.true)
+pub returns-then-eq-4 : goal.returns-then-eq-4
+returns-then-eq-4 c = rw (told c.args.word.now c.eq.ensures c.as_slice.ensures c.if-eq.false, told c.args.word.now c.eq-else-eq.ensures c.as_slice-else-eq.ensures c.if-eq-2.false, told c.args.word.now c.eq-else-eq-2.ensures c.as_slice-else-eq-2.ensures c.if-eq-3.false, told c.args.word.now c.eq-else-eq-3.ensures c.as_slice-else-eq-3.ensures c.if-eq-4.true)
 
-pub returns-then-is_word-5 : goal.returns-then-is_word-5
-returns-then-is_word-5 c =
-    rw (sym c.is_word.ensures ∙ c.if-is_word.false, sym c.is_word-2.ensures ∙ c.if-is_word-2.false, sym c.is_word-3.ensures ∙ c.if-is_word-3.false, sym c.is_word-4.ensures ∙ c.if-is_word-4.false, sym c.is_word-5.ensures ∙ c.if-is_word-5.true)
+pub returns-then-eq-5 : goal.returns-then-eq-5
+returns-then-eq-5 c = rw (told c.args.word.now c.eq.ensures c.as_slice.ensures c.if-eq.false, told c.args.word.now c.eq-else-eq.ensures c.as_slice-else-eq.ensures c.if-eq-2.false, told c.args.word.now c.eq-else-eq-2.ensures c.as_slice-else-eq-2.ensures c.if-eq-3.false, told c.args.word.now c.eq-else-eq-3.ensures c.as_slice-else-eq-3.ensures c.if-eq-4.false, told c.args.word.now c.eq-else-eq-4.ensures c.as_slice-else-eq-4.ensures c.if-eq-5.true)
 
-pub returns-then-is_word-6 : goal.returns-then-is_word-6
-returns-then-is_word-6 c =
-    rw (sym c.is_word.ensures ∙ c.if-is_word.false, sym c.is_word-2.ensures ∙ c.if-is_word-2.false, sym c.is_word-3.ensures ∙ c.if-is_word-3.false, sym c.is_word-4.ensures ∙ c.if-is_word-4.false, sym c.is_word-5.ensures ∙ c.if-is_word-5.false, sym c.is_word-6.ensures ∙ c.if-is_word-6.true)
+pub returns-then-eq-6 : goal.returns-then-eq-6
+returns-then-eq-6 c = rw (told c.args.word.now c.eq.ensures c.as_slice.ensures c.if-eq.false, told c.args.word.now c.eq-else-eq.ensures c.as_slice-else-eq.ensures c.if-eq-2.false, told c.args.word.now c.eq-else-eq-2.ensures c.as_slice-else-eq-2.ensures c.if-eq-3.false, told c.args.word.now c.eq-else-eq-3.ensures c.as_slice-else-eq-3.ensures c.if-eq-4.false, told c.args.word.now c.eq-else-eq-4.ensures c.as_slice-else-eq-4.ensures c.if-eq-5.false, told c.args.word.now c.eq-else-eq-5.ensures c.as_slice-else-eq-5.ensures c.if-eq-6.true)
 
-pub returns : goal.returns
-returns c =
-    rw (sym c.is_word.ensures ∙ c.if-is_word.false, sym c.is_word-2.ensures ∙ c.if-is_word-2.false, sym c.is_word-3.ensures ∙ c.if-is_word-3.false, sym c.is_word-4.ensures ∙ c.if-is_word-4.false, sym c.is_word-5.ensures ∙ c.if-is_word-5.false, sym c.is_word-6.ensures ∙ c.if-is_word-6.false)
+pub returns-else-eq-6 : goal.returns-else-eq-6
+returns-else-eq-6 c = rw (told c.args.word.now c.eq.ensures c.as_slice.ensures c.if-eq.false, told c.args.word.now c.eq-else-eq.ensures c.as_slice-else-eq.ensures c.if-eq-2.false, told c.args.word.now c.eq-else-eq-2.ensures c.as_slice-else-eq-2.ensures c.if-eq-3.false, told c.args.word.now c.eq-else-eq-3.ensures c.as_slice-else-eq-3.ensures c.if-eq-4.false, told c.args.word.now c.eq-else-eq-4.ensures c.as_slice-else-eq-4.ensures c.if-eq-5.false, told c.args.word.now c.eq-else-eq-5.ensures c.as_slice-else-eq-5.ensures c.if-eq-6.false)

@@ -1,18 +1,29 @@
+use Rattle.std.proofs.Common.{sym, ◌∙◌}
 use Rattle.number.proofs.Law.Arithmetic.{some_nan, other-nan, no_nan}
 use Rattle.number.specs.Arithmetic.{min_of}
 use Rattle.number.proofs.arithmetic.min.Goals as goal
+use Rattle.number.proofs.arithmetic.min.Goals.{then-is_nan-2, else-is_nan-2}
 
-pub returns-then-x : goal.returns-then-x
+pub returns-then-is_nan : goal.returns-then-is_nan
 unfolding min_of
-returns-then-x c =
-    some_nan c.args.x c.args.y _ c.if-x.true
+returns-then-is_nan c = some_nan c.args.x c.args.y _ (sym c.is_nan.ensures.value ∙ c.if-is_nan.true)
 
-pub returns-then-y : goal.returns-then-y
+pub returns-then-is_less : goal.returns-then-is_less
 unfolding min_of
-returns-then-y c =
-    other-nan c.args.x c.args.y _ c.if-y.true
+returns-then-is_less c =
+    elim c.if-is_nan-2.branch [
+      | then-is_nan-2 w ↦ other-nan c.args.x c.args.y _ (sym c.is_nan-else-is_nan.ensures.value ∙ w.if-is_nan-2.true)
+      | else-is_nan-2 w ↦
+          rw (sym w.is_less.ensures ∙ (sym w.value-is ∙ c.if-is_less.true))
+          (no_nan c.args.x c.args.y _ (sym c.is_nan.ensures.value ∙ c.if-is_nan.false) (sym c.is_nan-else-is_nan.ensures.value ∙ w.if-is_nan-2.false))
+    ]
 
-pub returns-else-y : goal.returns-else-y
+pub returns-else-is_less : goal.returns-else-is_less
 unfolding min_of
-returns-else-y c =
-    rw (c.pick.ensures, c.is_less.ensures) (no_nan c.args.x c.args.y _ c.if-x.false c.if-y.false)
+returns-else-is_less c =
+    elim c.if-is_nan-2.branch [
+      | then-is_nan-2 w ↦ absurd (cc)
+      | else-is_nan-2 w ↦
+          rw (sym w.is_less.ensures ∙ (sym w.value-is ∙ c.if-is_less.false))
+          (no_nan c.args.x c.args.y _ (sym c.is_nan.ensures.value ∙ c.if-is_nan.false) (sym c.is_nan-else-is_nan.ensures.value ∙ w.if-is_nan-2.false))
+    ]

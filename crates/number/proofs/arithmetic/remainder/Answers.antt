@@ -1,8 +1,7 @@
 -- `remainder`: by the fields of the two patterns.
-use Rattle.std.proofs.Common.{T, sym, ◌∙◌, subst}
+use Rattle.std.proofs.Common.{sym, ◌∙◌}
 use lib.Ieee.{of_bits, div}
-use lib.Ieee.Compare.{differs_from_itself}
-use Rattle.number.proofs.Law.Compare.{nan_is}
+use Rattle.number.proofs.Law.Compare.{only_nan}
 use Rattle.number.proofs.Law.Units.{number-units, field-below, rem-special, rem-by-special, rem-by-nan, by-zero, by-far, by-near, holding, above}
 use Rattle.number.proofs.arithmetic.remainder.Goals as goal
 
@@ -11,18 +10,18 @@ unfolding of_bits div
 returns-then-exponent-eq-SPECIAL c =
     sym (rem-special c.args.x c.args.y (holding c.well_formed.0.1) _ c.to_bits-a.ensures (sym c.exponent.ensures ∙ c.if-exponent-eq-SPECIAL.true))
 
-pub returns-then-y : goal.returns-then-y
-returns-then-y c =
-    let none = differs_from_itself c.args.y (subst T (sym c.if-y.true) tt) in
+pub returns-then-is_nan : goal.returns-then-is_nan
+returns-then-is_nan c =
+    let none = only_nan c.args.y (sym c.is_nan.ensures.value ∙ c.if-is_nan.true) in
     none ∙ sym (rem-by-nan c.args.x c.args.y none)
 
-pub returns-else-y : goal.returns-else-y
-returns-else-y c =
+pub returns-else-is_nan : goal.returns-else-is_nan
+returns-else-is_nan c =
     sym (rem-by-special c.args.x c.args.y _ _ _
     (number-units c.args.x (holding c.well_formed.0.1) _ c.to_bits-a.ensures (field-below _ (λ h. c.if-exponent-eq-SPECIAL.false (c.exponent.ensures ∙ h))))
     (holding c.well_formed.1.0.1) _ c.to_bits-b.ensures
     (sym c.exponent-2.ensures ∙ c.if-exponent-eq-SPECIAL-2.true)
-    (sym (nan_is c.args.y) ∙ c.if-y.false))
+    (sym c.is_nan.ensures.value ∙ c.if-is_nan.false))
 
 pub returns-then-n-eq0 : goal.returns-then-n-eq0
 unfolding of_bits div

@@ -1,15 +1,9 @@
-use Rattle.number.proofs.Law.Compare.{nan_is}
-use lib.Ieee.Compare.{differs_from_itself}
+use Rattle.number.proofs.Law.Compare.{only_nan}
 use lib.Ieee.{to_bits, binary64}
-use Rattle.std.proofs.Common.{Bool, not, T, sym, ap, ◌∙◌, subst}
+use Rattle.std.proofs.Common.{sym, ap, ◌∙◌}
 use Rattle.number.proofs.bits.to_bits.Goals as goal
 
 -- `to_bits` is the pattern of a number, and the one pattern of a NaN.
-pub float_to_bits-result : goal.float_to_bits-result
-float_to_bits-result c =
-    subst (λ (b : Bool). T (not b)) (sym (sym (nan_is c.args.x) ∙ c.if-x.false)) tt
-
-pub returns-then-x : goal.returns-then-x
+pub returns-then-is_nan : goal.returns-then-is_nan
 unfolding to_bits
-returns-then-x c =
-    sym (ap (to_bits binary64) (differs_from_itself c.args.x (subst T (sym c.if-x.true) tt)))
+returns-then-is_nan c = sym (ap (to_bits binary64) (only_nan c.args.x (sym c.is_nan.ensures.value ∙ c.if-is_nan.true)))

@@ -1,5 +1,6 @@
 use Rattle.number.proofs.Law.Colour.{component-below, component-above, component-nan, component-within}
 use lib.Ieee.{of_bits}
+use Rattle.std.proofs.Common.{sym, ◌∙◌}
 use Rattle.number.proofs.colour.component.Goals as goal
 
 -- `component` is the definition, by a law for each of its returns.
@@ -13,12 +14,12 @@ unfolding of_bits
 returns-then-x-2 c =
     component-above c.args.x c.if-x.false c.if-x-2.true
 
-pub returns-then-x-3 : goal.returns-then-x-3
+pub returns-then-is_nan : goal.returns-then-is_nan
 unfolding of_bits
-returns-then-x-3 c =
-    component-nan c.args.x c.if-x-3.true
+returns-then-is_nan c =
+    component-nan c.args.x (sym c.is_nan.ensures.value ∙ c.if-is_nan.true)
 
-pub returns-else-x-3 : goal.returns-else-x-3
+pub returns-else-is_nan : goal.returns-else-is_nan
 unfolding of_bits
-returns-else-x-3 c =
-    component-within c.args.x c.if-x.false c.if-x-2.false c.if-x-3.false
+returns-else-is_nan c =
+    component-within c.args.x c.if-x.false c.if-x-2.false (sym c.is_nan.ensures.value ∙ c.if-is_nan.false)

@@ -1,7 +1,6 @@
-use Rattle.number.specs.Rounding.{ceil_of}
+use Rattle.std.proofs.Common.{◌∙◌}
+use Rattle.number.proofs.Law.Rounding.{ceil-library}
 use Rattle.number.proofs.rounding.ceil.Goals as goal
 
 pub returns : goal.returns
-unfolding ceil_of
-returns c =
-    rw c.floor.ensures
+returns c = c.ceil.ensures ∙ ceil-library c.args.x

@@ -1,6 +1,6 @@
-use Rattle.number.proofs.Law.Rounding.{floor-picks}
+use Rattle.std.proofs.Common.{◌∙◌}
+use Rattle.number.proofs.Law.Rounding.{floor-library}
 use Rattle.number.proofs.rounding.floor.Goals as goal
 
 pub returns : goal.returns
-returns c =
-    rw (c.pick.ensures, c.around-n.ensures) (floor-picks c.args.x c.well_formed.0.1)
+returns c = c.floor.ensures ∙ floor-library c.args.x

@@ -1,4 +1,3 @@
-use mathlib.Core.Path.{◌∙◌}
 use Rattle.output.proofs.Law.Lines.{front_fits, front-left-out}
 use Rattle.output.proofs.line.to_front.Goals as goal
 
@@ -8,4 +7,4 @@ returns-then-out-line c =
 
 pub returns : goal.returns
 returns c =
-    c.text.ensures ∙ front_fits _ _ c.if-out-line.false
+    rw (c.copy_from_slice.ensures.after) (front_fits _ _ c.if-out-line.false)

@@ -7,4 +7,4 @@ use Rattle.style.proofs.head.fresh.Goals as goal
 pub returns : goal.returns
 unfolding fresh_plan packed_of single_of set_of
 returns c =
-    refl
+    rw (c.fill.ensures.after (λ y e. e)) refl

@@ -30,8 +30,3 @@ pub returns-in-Feat : goal.returns-in-Feat
 unfolding admits
 returns-in-Feat c =
     rw c.in-Feat.is
-
-pub returns-in-Unknown : goal.returns-in-Unknown
-unfolding admits
-returns-in-Unknown c =
-    rw c.in-Unknown.is

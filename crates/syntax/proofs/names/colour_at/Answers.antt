@@ -5,19 +5,17 @@ use Rattle.syntax.proofs.Law.Symbols.{sound-at}
 use Rattle.syntax.proofs.Law.Names.{unknown-string}
 use Rattle.syntax.proofs.names.colour_at.Goals as goal
 
-pub overflow_add-start : goal.overflow_add-start
-overflow_add-start c =
+pub overflow_add-x : goal.overflow_add-x
+overflow_add-x c =
     omega (arith, rw (← c.symbol_at-x.ensures) at (sound-at c.args.text.now c.args.at))
 
-pub slice_bounds-from_text-end : goal.slice_bounds-from_text-end
-slice_bounds-from_text-end c =
-    omega (arith, rw (← c.symbol_at-x.ensures) at (sound-at c.args.text.now c.args.at))
+pub returns-in_err-get : goal.returns-in_err-get
+returns-in_err-get c =
+    let x = c.symbol_at-x.result in
+    let s = rw (← c.symbol_at-x.ensures) at (sound-at c.args.text.now c.args.at) in
+    rw (← c.symbol_at-x.ensures, unknown-string c.args.text.now x.at x.end (omega (arith, c.in_err-get.ensures.lookup.0, c.saturating_sub.ensures, s.inside))) c.from_residual.ensures
 
-pub returns-then-start-end : goal.returns-then-start-end
+pub returns : goal.returns
 unfolding meaning
-returns-then-start-end c =
-    rw (← c.symbol_at-x.ensures, slice_is) c.from_text.ensures
-
-pub returns-else-start-end : goal.returns-else-start-end
-returns-else-start-end c =
-    rw (← c.symbol_at-x.ensures, unknown-string _ _ _ c.if-start-end.false)
+returns c =
+    rw (← c.symbol_at-x.ensures, slice_is, ← c.saturating_sub.ensures, ← c.in_ok-get.ensures.lookup.0.2) c.from_text.ensures

@@ -1,17 +1,12 @@
-use mathlib.Core.Path.{refl}
+use mathlib.Core.Path.{◌∙◌, ap}
 use Prim.Native.Nat.{◌+◌}
-use native.Mathlib.Omega.{arith}
-use Rattle.text.proofs.Law.Parts.{from_first, next-from, counted}
+use lib.Dec.{eqb}
+use Rattle.std.proofs.Common.{rules, tests}
+use Rattle.std.proofs.lemmas.Iterator.{YieldsList-from_slice}
+use Rattle.std.proofs.lemmas.Iterator.Consumers.{count_from_yields_List, YieldsList-from_filter}
+use Rattle.text.proofs.Law.Parts.{parted-count}
 use Rattle.text.proofs.part.count.Goals as goal
-
-pub loop-at-init : goal.loop-at-init
-loop-at-init c =
-    (0, 0, refl, omega arith, c.end-at.ensures, from_first _ _)
-
-pub loop-at-preserved : goal.loop-at-preserved
-loop-at-preserved c =
-    (c.loop-at.invariant.0 + 1, c.loop-at.at + 1, omega (arith, c.loop-at.invariant.2), omega (arith, c.loop-at.invariant.3, c.end-at-in-loop-at.ensures), c.end-at-in-loop-at.ensures, next-from _ _ _ _ _ c.loop-at.invariant.4 c.loop-at.invariant.5 c.loop-at-test.true)
 
 pub returns : goal.returns
 returns c =
-    counted _ _ _ _ _ c.loop-at.invariant.4 c.loop-at.invariant.5 _ c.loop-at.invariant.2 c.loop-at-test.false
+    ap (λ n. 1 + n) (count_from_yields_List c.filter.result _ c.count.ensures.ran (YieldsList-from_filter _ (λ x. eqb x c.args.separator) (YieldsList-from_slice c.args.text.now cc) c.filter.ensures.closure (λ x r q k. search (rules, tests)))) ∙ parted-count c.args.separator c.args.text.now

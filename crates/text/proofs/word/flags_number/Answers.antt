@@ -1,11 +1,13 @@
-use mathlib.Core.Path.{◌∙◌}
-use Rattle.text.proofs.Law.Words.{dashed, no-flags, letter-flags}
+use mathlib.Core.Path.{sym, ◌∙◌}
+use mathlib.Core.List.{[], ◌∷◌}
+use Rattle.lexer.proofs.Law.Texts.{pointwise-same}
+use Rattle.text.proofs.Law.Words.{no-flags, letter-flags}
 use Rattle.text.proofs.word.flags_number.Goals as goal
 
-pub returns-then-word-has_byte : goal.returns-then-word-has_byte
-returns-then-word-has_byte c =
-    no-flags c.args.word.now (dashed c.args.word.now _ c.has_byte.ensures ∙ c.if-word-has_byte.true)
+pub returns-then-eq : goal.returns-then-eq
+returns-then-eq c =
+    no-flags c.args.word.now (sym (rw (c.eq.ensures, c.as_slice.ensures) (pointwise-same c.args.word.now (45 ∷ []))) ∙ c.if-eq.true)
 
-pub returns-else-word-has_byte : goal.returns-else-word-has_byte
-returns-else-word-has_byte c =
-    letter-flags c.args.word.now _ (dashed c.args.word.now _ c.has_byte.ensures ∙ c.if-word-has_byte.false) c.number_in.ensures
+pub returns-else-eq : goal.returns-else-eq
+returns-else-eq c =
+    letter-flags c.args.word.now _ (sym (rw (c.eq.ensures, c.as_slice.ensures) (pointwise-same c.args.word.now (45 ∷ []))) ∙ c.if-eq.false) c.number_in.ensures

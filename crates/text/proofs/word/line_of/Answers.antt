@@ -1,5 +1,6 @@
-use mathlib.Core.Path.{sym, ◌∙◌, ap}
-use Rattle.text.specs.Word.{line_words, line_numbered, line_of}
+use mathlib.Core.Path.{sym, ◌∙◌}
+use Rattle.std.proofs.Common.{rules}
+use Rattle.text.specs.Word.{line_words, line_of}
 use Rattle.text.proofs.Law.Words.{numbered}
 use Rattle.text.proofs.word.line_of.Goals as goal
 
@@ -11,4 +12,4 @@ returns-then-is_feature c =
 pub returns : goal.returns
 unfolding line_of
 returns c =
-    rw (sym c.is_feature.ensures ∙ c.if-is_feature.false) (c.line_numbered.ensures ∙ ap line_numbered (numbered _ line_words c.args.word.now c.number_in.ensures))
+    rw (sym c.is_feature.ensures ∙ c.if-is_feature.false, sym (numbered _ line_words c.args.word.now c.number_in-number.ensures)) (search rules)

@@ -1,90 +1,9 @@
+use mathlib.Core.Path.{◌∙◌}
 use mathlib.Core.List.{map}
-use Rattle.words.proofs.Law.Arms.{above}
 use Rattle.value.specs.Name.{functions, operation, function_at}
-use Rattle.value.proofs.Law.Names.{past}
+use Rattle.value.proofs.Law.Names.{looked_up}
 use Rattle.value.proofs.name.function_at.Goals as goal
 
--- `function_at` is the list of functions, and past its end there is none.
-pub returns-in-0 : goal.returns-in-0
+pub returns : goal.returns
 unfolding function_at
-returns-in-0 c = rw c.in-0.is
-
-pub returns-in-1 : goal.returns-in-1
-unfolding function_at
-returns-in-1 c = rw c.in-1.is
-
-pub returns-in-2 : goal.returns-in-2
-unfolding function_at
-returns-in-2 c = rw c.in-2.is
-
-pub returns-in-3 : goal.returns-in-3
-unfolding function_at
-returns-in-3 c = rw c.in-3.is
-
-pub returns-in-4 : goal.returns-in-4
-unfolding function_at
-returns-in-4 c = rw c.in-4.is
-
-pub returns-in-5 : goal.returns-in-5
-unfolding function_at
-returns-in-5 c = rw c.in-5.is
-
-pub returns-in-6 : goal.returns-in-6
-unfolding function_at
-returns-in-6 c = rw c.in-6.is
-
-pub returns-in-7 : goal.returns-in-7
-unfolding function_at
-returns-in-7 c = rw c.in-7.is
-
-pub returns-in-8 : goal.returns-in-8
-unfolding function_at
-returns-in-8 c = rw c.in-8.is
-
-pub returns-in-9 : goal.returns-in-9
-unfolding function_at
-returns-in-9 c = rw c.in-9.is
-
-pub returns-in-10 : goal.returns-in-10
-unfolding function_at
-returns-in-10 c = rw c.in-10.is
-
-pub returns-in-11 : goal.returns-in-11
-unfolding function_at
-returns-in-11 c = rw c.in-11.is
-
-pub returns-in-12 : goal.returns-in-12
-unfolding function_at
-returns-in-12 c = rw c.in-12.is
-
-pub returns-in-13 : goal.returns-in-13
-unfolding function_at
-returns-in-13 c = rw c.in-13.is
-
-pub returns-in-14 : goal.returns-in-14
-unfolding function_at
-returns-in-14 c = rw c.in-14.is
-
-pub returns-in-15 : goal.returns-in-15
-unfolding function_at
-returns-in-15 c = rw c.in-15.is
-
-pub returns-in-16 : goal.returns-in-16
-unfolding function_at
-returns-in-16 c = rw c.in-16.is
-
-pub returns-in-17 : goal.returns-in-17
-unfolding function_at
-returns-in-17 c = rw c.in-17.is
-
-pub returns-in-18 : goal.returns-in-18
-unfolding function_at
-returns-in-18 c = rw c.in-18.is
-
-pub returns-in-19 : goal.returns-in-19
-unfolding function_at
-returns-in-19 c = rw c.in-19.is
-
-pub returns-in_default : goal.returns-in_default
-unfolding function_at
-returns-in_default c = past (map operation functions) _ (above 20 c.args.number c.in_default.in_default-own.rest)
+returns c = c.copied.ensures ∙ looked_up (map operation functions) c.args.number c.get.result c.get.ensures.lookup

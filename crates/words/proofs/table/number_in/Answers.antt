@@ -1,53 +1,35 @@
-use mathlib.Core.Path.{sym, ◌∙◌}
+use mathlib.Core.Path.{◌∙◌}
 use mathlib.Core.List.{map}
-use mathlib.Core.Logic.{inl, inr}
 use native.Mathlib.Nat.{zero-add}
 use native.Mathlib.Omega.{arith}
+use Prim.Native.Nat.{◌≤◌}
+use lib.ListN.{length}
+use Rattle.std.proofs.Common.{rules}
 use Rattle.words.specs.Table.{folded}
 use Rattle.words.proofs.Law.Words.{ends-within, found, passed, past}
 use Rattle.words.proofs.table.number_in.Goals as goal
-use Rattle.words.proofs.table.number_in.Goals.{then-end-at+else-stands, else-end-at}
 
 pub loop-at-init : goal.loop-at-init
-loop-at-init c =
-    (omega arith, zero-add _)
+loop-at-init c = (omega arith, zero-add _)
 
-pub overflow_sub-end : goal.overflow_sub-end
-overflow_sub-end c =
-    omega (arith, c.run_end-end.ensures)
+pub slice_bounds-is_word-end : goal.slice_bounds-is_word-end
+slice_bounds-is_word-end c =
+    let k : c.loop-at.at ≤ c.run_end-end.result = omega (arith, c.run_end-end.ensures) in
+    let l : c.run_end-end.result ≤ length c.args.table.now = ends-within c.args.table.now c.loop-at.at _ c.loop-at-test.true c.run_end-end.ensures in
+    search rules
 
-pub returns-then-stands : goal.returns-then-stands
-returns-then-stands c =
+pub returns-then-is_word : goal.returns-then-is_word
+returns-then-is_word c =
     let a = c.args in
     let l = c.loop-at in
-    let e = c.run_end-end in
-    found a.table.now l.at e.result c.loop-at-test.true e.ensures (folded a.folding) a.word.now l.number c.if-end-at.true (sym c.stands.ensures ∙ c.if-stands.true) ∙ l.invariant.1
-
-pub overflow_add-at : goal.overflow_add-at
-overflow_add-at c =
-    let a = c.args in
-    let h = ends-within a.table.now c.loop-at.at c.run_end-end.result c.loop-at-test.true c.run_end-end.ensures in
-    omega arith
-
-pub overflow_add-number : goal.overflow_add-number
-overflow_add-number c =
-    omega (arith, c.loop-at.invariant.0)
-
-pub loop-at-smaller : goal.loop-at-smaller
-loop-at-smaller c =
-    omega (arith, c.run_end-end.ensures)
+    found a.table.now l.at _ c.loop-at-test.true c.run_end-end.ensures (map (folded a.folding) a.word.now) l.number c.is_word.ensures c.if-is_word.true ∙ l.invariant.1
 
 pub loop-at-preserved : goal.loop-at-preserved
 loop-at-preserved c =
     let a = c.args in
-    let l = c.loop-at in
-    let e = c.run_end-end in (
-      omega (arith, e.ensures, l.invariant.0),
-      passed a.table.now l.at e.result c.loop-at-test.true e.ensures (folded a.folding) a.word.now l.number
-          (elim c.if-end-at.branch [
-            | then-end-at+else-stands w ↦ inl (w.if-end-at.true, sym w.stands.ensures ∙ w.if-stands.false)
-            | else-end-at w ↦ inr w.if-end-at.false
-          ])
+    let l = c.loop-at in (
+      omega (arith, c.run_end-end.ensures, l.invariant.0),
+      passed a.table.now l.at _ c.loop-at-test.true c.run_end-end.ensures (map (folded a.folding) a.word.now) l.number c.is_word.ensures c.if-is_word.false
           ∙ l.invariant.1,
     )
 

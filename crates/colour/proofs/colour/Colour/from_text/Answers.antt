@@ -1,13 +1,20 @@
-use mathlib.Core.Path.{sym, ◌∙◌, ap}
-use Rattle.colour.specs.Text.{colour_at, colour_of}
+use mathlib.Core.Path.{sym, ◌∙◌}
+use mathlib.Core.Bool.{true}
+use mathlib.Core.List.{map}
+use lib.Ieee.{of_bits, of_int, div, round}
+use Rattle.words.specs.Table.{folded}
+use Rattle.colour.specs.Colour.{of_bytes, rgb_of, rgba_of}
+use Rattle.colour.specs.Inner.{found}
+use Rattle.colour.specs.Text.{basics, colour_at, colour_of}
+use Rattle.colour.proofs.Law.Texts.{hash, place-named}
 use Rattle.colour.proofs.colour.Colour.from_text.Goals as goal
 
-pub returns-then-has_byte : goal.returns-then-has_byte
+pub returns-in-Some : goal.returns-in-Some
 unfolding colour_of
-returns-then-has_byte c =
-    rw (sym c.has_byte.ensures ∙ c.if-has_byte.true) c.hex_text.ensures
+returns-in-Some c =
+    rw (sym (hash c.args.text.now), c.in-Some.ensures.cases.0, sym c.in-Some.ensures.cases.1) c.hex_text.ensures
 
-pub returns-else-has_byte : goal.returns-else-has_byte
-unfolding colour_of
-returns-else-has_byte c =
-    rw (sym c.has_byte.ensures ∙ c.if-has_byte.false) (c.basic.ensures ∙ ap colour_at c.number_in.ensures)
+pub returns-in-None : goal.returns-in-None
+unfolding colour_of colour_at found of_bytes rgb_of rgba_of of_bits of_int div round
+returns-in-None c =
+    rw (sym (hash c.args.text.now), c.in-None.ensures.cases) (c.found.ensures ∙ sym (place-named basics (map (folded true) c.args.text.now)))

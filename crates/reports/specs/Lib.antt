@@ -1,0 +1,2 @@
+-- What the contracts name
+pub mod Count
