@@ -25,7 +25,7 @@ pub(crate) fn next(rt: &impl Print, file: &mut impl Read, name: &str) -> Option<
     case::next(
         rt,
         file,
-        name,
+        name.as_bytes(),
         &mut [0u8; LINE],
         |case, file| agrees(case, file),
     )

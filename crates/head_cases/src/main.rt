@@ -53,5 +53,5 @@ fn main(rt: HostRuntime) {
                 count::all(|| feature_case::next(&rt, &mut file, name))
             });
     }
-    report::counts(&rt, "total", total);
+    report::counts(&rt, b"total", total);
 }

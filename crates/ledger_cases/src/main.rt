@@ -36,5 +36,5 @@ fn main(rt: HostRuntime) {
                 count::all(|| case::next(&rt, &mut file, name, numbers.next()?))
             });
     }
-    report::counts(&rt, "total", total);
+    report::counts(&rt, b"total", total);
 }

@@ -17,7 +17,7 @@ fn next<const N: usize, P: Print, R: Read, F: Fn(&Case<'_, P>, &mut R, &[u8]) ->
 ) -> Option<bool>
     requires { F.IsAlwaysCallable agrees.now }
 {
-    case::next(rt, file, name, &mut [0u8; N], |case, file| {
+    case::next(rt, file, name.as_bytes(), &mut [0u8; N], |case, file| {
         if !line::fits(case.line, form) {
             return None;
         }

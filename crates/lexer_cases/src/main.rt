@@ -61,5 +61,5 @@ fn main(rt: HostRuntime) {
             classes::FORM,
             |case, _, text| Some(classes::agrees(case, text)),
         );
-    report::counts(&rt, "total", total);
+    report::counts(&rt, b"total", total);
 }

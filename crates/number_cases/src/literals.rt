@@ -72,7 +72,8 @@ fn text_agrees(case: &Case<'_, impl Print>, text: &[u8], at: u64) -> bool {
     if got == wanted {
         return true;
     }
-    let _ = print!(rt; "{name} text ");
+    report::text(rt, name);
+    report::text(rt, b" text ");
     report::text(rt, text);
     let _ = print!(rt; " at {at:016x} expected");
     print(rt, wanted);
@@ -83,5 +84,5 @@ fn text_agrees(case: &Case<'_, impl Print>, text: &[u8], at: u64) -> bool {
 }
 
 pub(crate) fn next(rt: &impl Print, file: &mut impl Read, name: &str) -> Option<bool> {
-    case::next(rt, file, name, &mut [0u8; LINE], |case, _| agrees(case))
+    case::next(rt, file, name.as_bytes(), &mut [0u8; LINE], |case, _| agrees(case))
 }

@@ -41,5 +41,5 @@ fn main(rt: HostRuntime) {
         + count::file(&rt, LITERALS, |mut file| {
             count::all(|| literals::next(&rt, &mut file, LITERALS))
         });
-    report::counts(&rt, "total", total);
+    report::counts(&rt, b"total", total);
 }

@@ -3,7 +3,7 @@ use cases::line;
 use cases::tally::Tally;
 use number::bits::{from_bits, to_bits};
 use reports::case::Case;
-use reports::{case, count};
+use reports::{case, count, report};
 use std::io::Read;
 use std::rt::Files;
 
@@ -23,8 +23,9 @@ fn agrees<F: Fn(u64, u64, u64) -> u64>(case: &Case<'_, impl Print>, function: &F
     let wanted = line::number(line, 51, 67);
     let got = function(x, y, z);
     if got != wanted {
+        report::text(rt, name);
         let _ = println!(rt;
-            "{name} arguments {x:016x} {y:016x} {z:016x} expected {wanted:016x} got {got:016x}"
+            " arguments {x:016x} {y:016x} {z:016x} expected {wanted:016x} got {got:016x}"
         );
     }
     Some(got == wanted)
@@ -41,7 +42,7 @@ fn next<F: Fn(u64, u64, u64) -> u64>(
     case::next(
         rt,
         file,
-        name,
+        name.as_bytes(),
         &mut [0u8; LINE],
         |case, _| agrees(case, function),
     )

@@ -10,7 +10,7 @@ use std::io::Read;
 #[derive_where(Clone, Copy)]
 pub struct Case<'a, P: Print> {
     pub rt: &'a P,
-    pub name: &'a str,
+    pub name: &'a [u8],
     pub line: &'a [u8],
 }
 
@@ -20,7 +20,8 @@ impl<'a, P: Print> Case<'a, P> {
         ensures { result ≡ false }
     {
         let Case { rt, name, line } = *self;
-        let _ = print!(rt; "{name}: malformed: ");
+        report::text(rt, name);
+        report::text(rt, b": malformed: ");
         report::text(rt, line);
         let _ = println!(rt; "");
         false
@@ -31,8 +32,8 @@ impl<'a, P: Print> Case<'a, P> {
     pub fn difference(&self)
         ensures { self.now ≡ self.now }
     {
-        let name = self.name;
-        let _ = print!(self.rt; "{name}: ");
+        report::text(self.rt, self.name);
+        report::text(self.rt, b": ");
         report::text(self.rt, self.line);
     }
 
@@ -52,7 +53,7 @@ impl<'a, P: Print> Case<'a, P> {
 pub fn next<'a, P: Print, R: Read, F: FnOnce(&Case<'a, P>, &mut R) -> Option<bool>>(
     rt: &'a P,
     file: &mut R,
-    name: &'a str,
+    name: &'a [u8],
     room: &'a mut [u8],
     agrees: F,
 ) -> Option<bool>

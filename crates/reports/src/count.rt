@@ -29,7 +29,7 @@ pub fn file<R: Files + Print, F: FnOnce(R::File) -> Tally>(rt: &R, path: &str, c
     ensures { ((opened : _) × F.post count opened result) ⊎ (result ≡ tally_of 0 1) }
 {
     match File::open(rt, path) {
-        Ok(opened) => report::counts(rt, path, count(opened)),
-        Err(_) => report::missing(rt, path),
+        Ok(opened) => report::counts(rt, path.as_bytes(), count(opened)),
+        Err(_) => report::missing(rt, path.as_bytes()),
     }
 }

@@ -11,18 +11,20 @@ pub fn text(rt: &impl Print, bytes: &[u8])
 }
 
 // The counts of a file, or of all, for the caller to go on with.
-pub fn counts(rt: &impl Print, name: &str, tally: Tally) -> Tally
+pub fn counts(rt: &impl Print, name: &[u8], tally: Tally) -> Tally
     ensures { result ≡ tally }
 {
     let Tally { cases, differences } = tally;
-    let _ = println!(rt; "{name}: {cases} cases, {differences} differences");
+    text(rt, name);
+    let _ = println!(rt; ": {cases} cases, {differences} differences");
     tally
 }
 
 // What a file that is missing counts.
-pub fn missing(rt: &impl Print, name: &str) -> Tally
+pub fn missing(rt: &impl Print, name: &[u8]) -> Tally
     ensures { result ≡ tally_of 0 1 }
 {
-    let _ = println!(rt; "{name}: missing");
+    text(rt, name);
+    let _ = println!(rt; ": missing");
     Tally::MISSING
 }

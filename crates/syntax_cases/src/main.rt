@@ -37,5 +37,5 @@ fn main(rt: HostRuntime) {
                 count::all(|| case::next(&rt, &mut file, name))
             });
     }
-    report::counts(&rt, "total", total);
+    report::counts(&rt, b"total", total);
 }

@@ -38,5 +38,5 @@ fn main(rt: HostRuntime) {
         )
         + case::file(&rt, "sets", sets::FORM, |case, _| sets::agrees(case))
         + case::file(&rt, "names", names::FORM, names::agrees);
-    report::counts(&rt, "total", total);
+    report::counts(&rt, b"total", total);
 }
