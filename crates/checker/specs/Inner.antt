@@ -3,14 +3,14 @@ use Rattle.std.specs.Prelude.{◌≡◌, cond, ltb, Option, Some, None, List, []
 use Rattle.lexer.specs.declared.token.Token.{Token}
 use Rattle.lexer.specs.declared.token.Token.TheVariants.{Variable}
 use Rattle.lexer.specs.declared.refusal.Refusal.{Refusal}
-use Rattle.arrayvec.specs.ArrayVec.{ArrayVec}
-use Rattle.kind.specs.Choice.{with_of}
+use Rattle.kind.specs.Choice.{held, with_of}
+use Rattle.kind.specs.declared.choice.Parts.{Parts}
 use Rattle.kind.specs.declared.set.Kinds.{Kinds}
 
 -- the parts that are held, or a refusal
-abbrev pub items_of : Result (ArrayVec Kinds) Refusal → Result (List Kinds) Refusal
+abbrev pub items_of : Result Parts Refusal → Result (List Kinds) Refusal
 items_of (Err r) = Err r
-items_of (Ok ps) = Ok ps.items
+items_of (Ok ps) = Ok (held ps)
 
 -- some parts and then any count of others, or the first refusal among these
 abbrev pub with_all : List Kinds → List (Result Kinds Refusal) → Result (List Kinds) Refusal

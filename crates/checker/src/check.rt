@@ -124,7 +124,7 @@ fn kinds(slots: &[u16], plan: &Plan, at: usize, allowance: usize) -> Result<Kind
             arguments,
         } => {
             let parts = all_kinds(slots, plan, arguments, rest)?;
-            node(at, function_at(function), &parts)
+            node(at, function_at(function), parts.as_slice())
         }
         Node::Pick { index, part } => {
             let set = kinds(slots, plan, part, rest)?;

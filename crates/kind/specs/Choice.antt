@@ -1,8 +1,9 @@
 -- A node's set of kinds from its parts' sets: page 01, "Kinds and meaning" ("The checker gives each node a set of kinds").
-use Rattle.std.specs.Prelude.{Bool, true, false, cond, ◌||◌, List, [], ◌∷◌, Option, Some, None}
+use Rattle.std.specs.Prelude.{Bool, true, false, cond, ◌||◌, List, [], ◌∷◌, take, Option, Some, None}
 use Rattle.kind.specs.Kind.{eq_kind}
 use Rattle.kind.specs.Rule.{rule_of}
 use Rattle.kind.specs.Set.{some, set_of, empty_of}
+use Rattle.kind.specs.declared.choice.Parts.{Parts}
 use Rattle.kind.specs.declared.kind.Kind.{Kind}
 use Rattle.kind.specs.declared.operation.Operation.{Operation}
 use Rattle.kind.specs.declared.set.Kinds.{Kinds}
@@ -27,6 +28,10 @@ node_kinds o ss =
     cond (some_choice ss (λ ks. faults (rule_of o ks))) None (Some (set_of (λ k. some_choice ss (λ ks. gives k (rule_of o ks)))))
 
 -- ---- parts as the code holds them
+
+-- the sets that are held
+abbrev pub held : Parts → List Kinds
+held p = take p.count p.sets
 
 -- some set of a list is empty
 abbrev pub some_empty : List Kinds → Bool

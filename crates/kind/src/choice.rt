@@ -1,8 +1,8 @@
 // The set of kinds of a node, from the sets of its parts: what some choice of kinds, one from each
 // set, gives.
-ghost use Rattle.std.specs.Prelude.{◌≡◌, ◌+◌, ◌≤◌, ◌++◌, length, IfSome};
+ghost use Rattle.std.specs.Prelude.{◌≡◌, ◌+◌, ◌≤◌, ◌++◌, [], length};
 ghost use Rattle.arrayvec.specs.ArrayVec.{array_vec_len};
-ghost use Rattle.kind.specs.Choice.{node_kinds, with_of};
+ghost use Rattle.kind.specs.Choice.{node_kinds, held, with_of};
 ghost use Rattle.kind.specs.Inner.{choices_of};
 ghost use Rattle.kind.specs.Rule.{rule_of};
 
@@ -18,17 +18,43 @@ const MOST_OPERANDS: usize = 4;
 // Of more parts than that only whether one is empty matters: the last one kept stands for all behind it.
 pub const MOST_PARTS: usize = 5;
 
-// The sets of a node's parts.
-pub type Parts = ArrayVec<Kinds, MOST_PARTS>;
+// The sets of a node's parts: the first so many. Those behind them are empty, so that two are equal
+// exactly if they hold the same.
+#[derive(Clone, Copy, Debug, Default, PartialEq, Eq)]
+pub struct Parts {
+    sets: [Kinds; MOST_PARTS],
+    count: usize,
+}
+
+impl Parts {
+    // No parts.
+    pub fn new() -> Parts
+        ensures { held result ≡ [] }
+    {
+        Parts {
+            sets: [Kinds::NONE; MOST_PARTS],
+            count: 0,
+        }
+    }
+
+    pub fn as_slice(&self) -> &[Kinds]
+        ensures { result.now ≡ held self.now }
+    {
+        self.sets.get(..self.count).unwrap_or(&self.sets)
+    }
+}
 
 // Adds one more part.
 pub fn add(parts: &mut Parts, set: Kinds)
-    ensures { parts.new.items ≡ with_of parts.old.items set }
+    ensures { held parts.new ≡ with_of (held parts.old) set }
 {
-    if !parts.is_full() {
-        parts.push(set);
-    } else if set.is_empty() {
-        parts[MOST_OPERANDS] = Kinds::NONE;
+    let count = parts.count;
+    let empty = set.is_empty();
+    if count < MOST_PARTS {
+        parts.sets[count] = set;
+        parts.count = count + 1;
+    } else if empty {
+        parts.sets[MOST_OPERANDS] = Kinds::NONE;
     }
 }
 
@@ -40,7 +66,7 @@ fn choices(
 ) -> Option<Kinds>
     requires { array_vec_len chosen.old + length parts.now ≤ 4 }
     ensures given { result ≡ choices_of (λ ks. rule_of operation (chosen.old.items ++ ks)) parts.now }
-    ensures kept { IfSome result (λ s. chosen.new.items ≡ chosen.old.items) }
+    ensures kept { chosen.new.items ≡ chosen.old.items }
 {
     let [set, rest @ ..] = parts else {
         return rule(operation, chosen).map(Kinds::single);
@@ -49,9 +75,10 @@ fn choices(
     for kind in &Kind::ALL {
         if set.has(*kind) {
             chosen.push(*kind);
-            let given = choices(operation, chosen, rest)?;
+            let given = choices(operation, chosen, rest);
             chosen.pop();
-            kinds = kinds.union(given);
+            let more = given?;
+            kinds = kinds.union(more);
         }
     }
     Some(kinds)

@@ -29,7 +29,7 @@ pub(crate) fn agrees(case: &Case<'_, impl Print>) -> Option<bool> {
     if MOST_PARTS < count {
         return None;
     }
-    let (mark, mask) = match node_kinds(operation, &parts(line, count)) {
+    let (mark, mask) = match node_kinds(operation, parts(line, count).as_slice()) {
         None => (b'R', 0),
         Some(set) => (b'A', kinds::mask(set)),
     };

@@ -25,7 +25,8 @@ use Rattle.lexer.proofs.Munch.{munch}
 use Rattle.tree.specs.Slots.{put, variable_tag}
 use Rattle.checker.specs.Name.{first_row, property_row, row_in, numbered, onward, resolved_from, resolved_slots}
 use Rattle.checker.specs.Inner.{row_below, Stands}
-use Rattle.checker.specs.declared.name.Scope.TheVariants.{Style}
+use Rattle.checker.specs.declared.name.Scope.{Scope}
+use Rattle.checker.specs.declared.name.Scope.TheVariants.{Define, Style}
 
 -- a name is all of itself, from its start to its end
 pub whole-name : (r : Bool) (name other : List ℕ) → r ≡ same (slice 0 (length name) name) other → r ≡ same name other
@@ -80,6 +81,15 @@ module _ (p : ℕ → Bool) (r : Option ℕ) where
   pub define-or : r ≡ row_below 48 (first_row p (48 - 32) 32) → unwrap_or r (property_row p) ≡ row_in Style p
   unfolding row_in
   define-or e = ap (λ r. unwrap_or r (property_row p)) e ∙ below-or (first_row p 16 32) 48 (property_row p)
+
+-- either scope
+module _ (p : ℕ → Bool) (scope : Scope) (i : ℕ) where
+  pub in-define : scope ≡ Define → i ≡ property_row p → i ≡ row_in scope p
+  unfolding row_in
+  in-define e h = h ∙ ap (λ s. row_in s p) (sym e)
+
+  pub in-style : scope ≡ Style → i ≡ row_in Style p → i ≡ row_in scope p
+  in-style e h = h ∙ ap (λ s. row_in s p) (sym e)
 
 -- ---- tokens
 

@@ -1,14 +1,17 @@
 -- What is found of all signatures of an operation holds of its rule: what it does not take, and what it gives.
 use Rattle.std.specs.Prelude.{Option, Some, None}
-use mathlib.Core.Path.{◌≡◌, refl, ap₂, subst}
-use mathlib.Core.Bool.{Bool, true, false, ◌&&◌}
+use mathlib.Core.Path.{◌≡◌, refl, sym, ap₂, subst}
+use mathlib.Core.Bool.{Bool, true, false, ◌&&◌, ◌||◌}
 use mathlib.Core.List.{List, [], ◌∷◌}
-use lib.Dec.{T}
+use Prim.Native.Nat.{ℕ}
+use lib.Dec.{T, eqb, leb}
 use lib.Ieee.Fits.{and_l, and_r}
+use lib.ListN.{length}
 use Rattle.kind.specs.Kind.{eq_kind}
 use Rattle.kind.specs.Rule.{Signature, ◌⇒◌, signatures, same_kinds, ruled_by, rule_of}
 use Rattle.kind.specs.declared.kind.Kind.{Kind}
 use Rattle.kind.specs.declared.operation.Operation.{Operation}
+use Rattle.kind.specs.declared.operation.Operation.TheVariants as op
 use Rattle.kind.proofs.Law.Choices.{kind-is}
 use Rattle.kind.proofs.Law.Operations.{operations, every_operation, every-operation}
 
@@ -48,6 +51,31 @@ few (a ∷ b ∷ c ∷ d ∷ e ∷ ks) = false
 pub over-four : (o : Operation) (a b c d e : Kind) (ks : List Kind) → rule_of o (a ∷ b ∷ c ∷ d ∷ e ∷ ks) ≡ None
 unfolding rule_of
 over-four o a b c d e ks = none-takes few (signatures o) (a ∷ b ∷ c ∷ d ∷ e ∷ ks) (every-operation (λ o. each few (signatures o)) tt o) (λ n. n)
+
+-- ---- a count of operands that an operation does not take
+
+-- how many operands an operation may take
+abbrev pub takes : Operation → ℕ → Bool
+takes (op.Unary f) n = eqb n 1
+takes (op.Binary f) n = eqb n 2
+takes (op.Ternary f) n = eqb n 3
+takes (op.Logic f) n = eqb n 1 || eqb n 2
+takes (op.Order f) n = eqb n 2
+takes (op.Equality f) n = eqb n 2
+takes (op.Test f) n = eqb n 1
+takes (op.Constructor f) n = leb n 4
+takes (op.Product f) n = eqb n 2
+takes (op.Pick m) n = eqb n 1
+
+abbrev counted : Operation → List Kind → Bool
+counted o ks = takes o (length ks)
+
+pub untaken : (o v : Operation) (ks : List Kind) → o ≡ v → takes v (length ks) ≡ false → None ≡ rule_of o ks
+unfolding rule_of
+untaken o v ks e n =
+    sym
+    (none-takes (counted o) (signatures o) ks (every-operation (λ o. each (counted o) (signatures o)) tt o)
+    (λ t. subst T n (subst (λ (u : Operation). T (takes u (length ks))) e t)))
 
 -- ---- what an operation gives
 

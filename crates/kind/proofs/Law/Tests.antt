@@ -61,11 +61,15 @@ same-ruled None (Some l) e = absurd (false≢true e)
 same-ruled (Some k) None e = absurd (false≢true e)
 same-ruled (Some k) (Some l) e = ap Some (same_kind k l e)
 
--- ---- rules of one operand, and of two
+-- ---- rules of one operand, of two and of three
 
-by-test1 : (f g : Kind → (Option Kind)) → every_of kinds (λ k. eq_ruled (f k) (g k)) ≡ true → (k : Kind) → f k ≡ g k
+pub by-test1 : (f g : Kind → (Option Kind)) → every_of kinds (λ k. eq_ruled (f k) (g k)) ≡ true → (k : Kind) → f k ≡ g k
 by-test1 f g e k = same-ruled (f k) (g k) (every-kind (λ k. eq_ruled (f k) (g k)) e k)
 
 pub by-test2 : (f g : Kind → Kind → (Option Kind)) → every_of kinds (λ k. every_of kinds (λ l. eq_ruled (f k l) (g k l))) ≡ true →
     (k l : Kind) → f k l ≡ g k l
 by-test2 f g e k = by-test1 (f k) (g k) (every-kind (λ k. every_of kinds (λ l. eq_ruled (f k l) (g k l))) e k)
+
+pub by-test3 : (f g : Kind → Kind → Kind → (Option Kind)) →
+    every_of kinds (λ k. every_of kinds (λ l. every_of kinds (λ m. eq_ruled (f k l m) (g k l m)))) ≡ true → (k l m : Kind) → f k l m ≡ g k l m
+by-test3 f g e k = by-test2 (f k) (g k) (every-kind (λ k. every_of kinds (λ l. every_of kinds (λ m. eq_ruled (f k l m) (g k l m)))) e k)

@@ -112,7 +112,7 @@ kinds-returns-in_err-parts-in-Call t c =
 
 pub kinds-returns-in_ok-parts-in-Call : goal.kinds-returns-in_ok-parts-in-Call
 kinds-returns-in_ok-parts-in-Call t c =
-    rw (kinds-step _ _ _ _ _ c.if-allowance-eq0.false (sym c.in-Call.is ∙ c.node_at.ensures), ← node-all, ← c.all_kinds.ensures, c.in_ok-parts-in-Call.was, c.node-in-Call.ensures, c.function_at-in-Call.ensures, c.deref.ensures.0)
+    rw (kinds-step _ _ _ _ _ c.if-allowance-eq0.false (sym c.in-Call.is ∙ c.node_at.ensures), ← node-all, ← c.all_kinds.ensures, c.in_ok-parts-in-Call.was, c.node-in-Call.ensures, c.function_at-in-Call.ensures, c.as_slice.ensures)
 
 pub kinds-returns-in_err-set-in-Pick : goal.kinds-returns-in_err-set-in-Pick
 kinds-returns-in_err-set-in-Pick t c =

@@ -1,3 +1,4 @@
+use Rattle.std.specs.Prelude.{Some, None}
 use mathlib.Core.Path.{◌≡◌, refl, sym, ap, ◌∙◌}
 use mathlib.Core.List.{◌++◌}
 use Prim.Native.Nat.{◌-◌, ◌<◌}
@@ -13,7 +14,7 @@ use Rattle.kind.specs.Rule.{rule_of}
 use Rattle.kind.specs.Inner.{choices_of}
 use Rattle.kind.proofs.Law.Choices.{no-parts, at-passed, at-given, at-faulted, all-given}
 use Rattle.kind.proofs.choice.+choices.Goals as goal
-use Rattle.kind.proofs.choice.+choices.Goals.{then-has+in_ok-given, else-has}
+use Rattle.kind.proofs.choice.+choices.Goals.{then-has+in_ok-more, else-has}
 
 pub returns-in_default-clause-given : goal.returns-in_default-clause-given
 returns-in_default-clause-given t c =
@@ -24,16 +25,17 @@ pub loop-kind-init : goal.loop-kind-init
 unfolding set_of
 loop-kind-init t c = record { given = refl; kept = refl }
 
-pub returns-in_err-given-clause-given : goal.returns-in_err-given-clause-given
+pub returns-in_err-more-clause-given : goal.returns-in_err-more-clause-given
 unfolding set_of
-returns-in_err-given-clause-given t c =
+returns-in_err-more-clause-given t c =
     let ss = c.args.parts.now in
     let inside : c.loop-kind.kind-index < 8 = omega arith in
     let some : 0 < length ss = omega arith in
+    let faulted : c.choices-given.result ≡ None = search rules in
     c.from_residual.ensures
     ∙ at-faulted c.args.operation c.args.chosen.now.items _ (take (length ss - 1) (drop 1 ss)) _ _ inside c.has.result c.has.ensures c.if-has.true
     _ c.loop-kind.invariant.kept _ c.push.ensures.items
-    c.choices.result c.choices.ensures.given c.in_err-given.was
+    c.choices-given.result c.choices-given.ensures.given faulted
     ∙ ap (choices_of (λ ks. rule_of c.args.operation (c.args.chosen.now.items ++ ks))) (sym (first_rest ss (set_of (λ k. false)) some))
 
 pub loop-kind-preserved : goal.loop-kind-preserved
@@ -41,11 +43,11 @@ loop-kind-preserved t c =
     let ss = c.args.parts.now in
     let inside : c.loop-kind.kind-index < 8 = omega arith in
     elim c.if-has.branch [
-      | then-has+in_ok-given w ↦ record {
+      | then-has+in_ok-more w ↦ let gave : w.choices-given.result ≡ Some w.in_ok-more.more = search rules in record {
         given =
             at-given c.args.operation c.args.chosen.now.items _ (take (length ss - 1) (drop 1 ss)) c.loop-kind.kind-index _ inside c.has.result c.has.ensures w.if-has.true
             _ c.loop-kind.invariant.kept _ w.push.ensures.items
-            w.choices.result w.choices.ensures.given c.loop-kind.kinds _ _ c.loop-kind.invariant.given w.in_ok-given.was (w.kinds-is ∙ w.union-kinds.ensures);
+            w.choices-given.result w.choices-given.ensures.given c.loop-kind.kinds w.in_ok-more.more _ c.loop-kind.invariant.given gave (w.kinds-is ∙ w.union-kinds.ensures);
         kept = grind (arith, common_steps);
       }
       | else-has w ↦ record {
