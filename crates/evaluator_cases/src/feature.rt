@@ -125,7 +125,8 @@ fn line_agrees(
         slots,
         root,
     } = *expression;
-    let (mut feature, mut wanted) = ([0u8; read::MOST], [0u8; read::MOST]);
+    let mut feature = [0u8; read::MOST];
+    let mut wanted = [0u8; read::MOST];
     let feature = read::text(file, &mut feature, line::number(line, 0, 3) as usize)?;
     let values = read_values(file, line::number(line, 4, 6))?;
     let texts = Texts { style, feature };

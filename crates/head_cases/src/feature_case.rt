@@ -43,7 +43,8 @@ fn agrees(case: &Case<'_, impl Print>, file: &mut impl Read) -> Option<bool> {
     if !line::fits(case.line, b"hhhh hhhhhhhhhhhhhhhh hhhh h hhhhh hh\n") {
         return None;
     }
-    let (mut head, mut text) = ([0u8; rooms::TEXT], [0u8; rooms::TEXT]);
+    let mut head = [0u8; rooms::TEXT];
+    let mut text = [0u8; rooms::TEXT];
     let head = read::text(file, &mut head, line::number(case.line, 0, 4) as usize)?;
     let text = read::text(file, &mut text, line::number(case.line, 22, 26) as usize)?;
     let mut plan = [0u16; PLAN];

@@ -87,7 +87,8 @@ fn agrees(case: &Case<'_, impl Print>, file: &mut impl Read) -> Option<bool> {
     let mut room = [0u8; rooms::HEAD];
     let head = read::text(file, &mut room, line::number(case.line, 5, 9) as usize)?;
     let size = line::number(case.line, 0, 4) as usize;
-    let (mut first, mut second) = ([UNUSED; SLOTS], [UNUSED; SLOTS]);
+    let mut first = [UNUSED; SLOTS];
+    let mut second = [UNUSED; SLOTS];
     let (first, second) = (first.get_mut(..size)?, second.get_mut(..size)?);
     Some(check_agrees(case, head, first) & compile_agrees(case, file, head, second))
 }

@@ -22,7 +22,8 @@ fn agrees(
     if !line::fits(line, b"hhhhhh hhhhhh\n") {
         return None;
     }
-    let (mut input, mut wanted) = ([0u8; MOST], [0u8; MOST]);
+    let mut input = [0u8; MOST];
+    let mut wanted = [0u8; MOST];
     let input = read::bytes(file, &mut input, line::number(line, 0, 6) as usize)?;
     let wanted = read::bytes(file, &mut wanted, line::number(line, 7, 13) as usize)?;
     let mut slots = [0u16; ROOM_SIZE];

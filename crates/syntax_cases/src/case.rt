@@ -11,7 +11,8 @@ fn agrees(case: &Case<'_, impl Print>, file: &mut impl Read) -> Option<bool> {
     if !line::fits(case.line, b"hhh h hhh hhhh\n") {
         return None;
     }
-    let (mut text, mut tree) = ([0u8; read::MOST], [0u8; read::MOST]);
+    let mut text = [0u8; read::MOST];
+    let mut tree = [0u8; read::MOST];
     let text = read::text(file, &mut text, line::number(case.line, 0, 3) as usize)?;
     let tree = read::text(file, &mut tree, line::number(case.line, 10, 14) as usize)?;
     Some(judged::agrees(case, text, tree))

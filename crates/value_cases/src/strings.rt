@@ -38,7 +38,8 @@ pub(crate) fn agrees(case: &Case<'_, impl Print>, file: &mut impl Read) -> Optio
     let operation = operations::of_line(line)?;
     let first = operand(line, 11)?;
     let second = operand(line, 49)?;
-    let (mut style, mut feature) = ([0u8; read::MOST], [0u8; read::MOST]);
+    let mut style = [0u8; read::MOST];
+    let mut feature = [0u8; read::MOST];
     let style = read::text(file, &mut style, line::number(line, 3, 6) as usize)?;
     let feature = read::text(file, &mut feature, line::number(line, 7, 10) as usize)?;
     let got = values::columns(apply(Texts { style, feature }, operation, &[first, second]));
