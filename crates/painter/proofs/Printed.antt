@@ -1,4 +1,5 @@
 -- What is printed for a feature is its line.
+use Rattle.std.specs.Prelude.{Result, Ok, Err}
 use mathlib.Core.Path.{◌≡◌, refl, ◌∙◌, ap}
 use mathlib.Core.List.{List, ◌++◌}
 use Prim.Native.Nat.{ℕ, ◌≤◌}
@@ -11,14 +12,21 @@ use Rattle.style.specs.Answer.{Answer, refusal, accepted, on_accepted}
 use Rattle.style.specs.Style.{Style}
 use Rattle.style.specs.Head.{style_of, checked_of}
 use Rattle.style.proofs.Law.Ladder.{taken}
+use Rattle.style.specs.declared.check.LineRefusal.{LineRefusal}
 use Rattle.output.specs.Line.{front, longest_line}
 use Rattle.output.proofs.Sizes.{painted-page, refused-feature-page}
 use Rattle.painter.specs.declared.answer.Given.{Given}
-use Rattle.painter.specs.Paint.{given_answer, written_for, least_bytes, painted_of, feature_line, given_in}
+use Rattle.painter.specs.Paint.{drawn_answer, given_answer, written_for, least_bytes, painted_of, feature_line, drawn_line, given_in}
 use Rattle.painter.specs.Applied.{compiled, given_under}
 use Rattle.painter.proofs.Order.{paint-style}
 use Rattle.painter.proofs.Law.Calls.{compiled-given}
 use Rattle.lexer.specs.Refusal.{reason_number}
+
+-- what is printed of page 01's refusals
+pub drawn-is : (number : ℕ) (drawn : Result Given LineRefusal) →
+    drawn_line (λ r. reason_number r.refusal.reason) (λ r. r.refusal.place) number drawn ≡ feature_line number (drawn_answer drawn)
+drawn-is number (Err r) = refl
+drawn-is number (Ok given) = refl
 
 pub line-fits : (number : ℕ) (a : Answer Given) → length (feature_line number a) ≤ longest_line
 line-fits number (refusal line r) = refused-feature-page number (reason_number r.reason) r.place

@@ -91,6 +91,11 @@ abbrev pub feature_line : ℕ → Answer Given → List ℕ
 feature_line number (refusal line r) = refused_feature number (reason_number r.reason) r.place
 feature_line number (accepted given) = given_line number given
 
+-- the same where a refusal is of any type, by the number and the place that are printed of it
+abbrev pub drawn_line : {R : Type 0} → (R → ℕ) → (R → ℕ) → ℕ → Result Given R → List ℕ
+drawn_line printed_number printed_place number (Err r) = refused_feature number (printed_number r) (printed_place r)
+drawn_line printed_number printed_place number (Ok given) = given_line number given
+
 -- what a call gives, its line aside
 abbrev pub given_in : Answer Painted → Answer Given
 given_in a = on_accepted a (λ w. accepted w.given)

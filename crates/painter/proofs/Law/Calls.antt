@@ -27,7 +27,7 @@ use Rattle.feature.specs.Feature.{Values, complete, broken, sets_of, feature_of,
 use Rattle.feature.specs.Feature as feature
 use Rattle.output.specs.Line.{front}
 use Rattle.output.proofs.Law.Lines.{front-within}
-use Rattle.painter.specs.Paint.{on_values, given_answer, given_line, drawn_answer, featured, least_bytes, short_buffer, painted_of, out_after, room_after, feature_line}
+use Rattle.painter.specs.Paint.{on_values, given_answer, given_line, drawn_answer, featured, least_bytes, short_buffer, painted_of, out_after, room_after, drawn_line}
 use Rattle.painter.specs.declared.answer.Given.{Given}
 use Rattle.painter.specs.Applied.{Source, source, compiled, all_defined, given_at, entered_by, given_under, defined_by, given_values, line_written, written_by, applied_of, applied_values}
 use Rattle.painter.proofs.Order.{accepted-first, style-given}
@@ -96,10 +96,13 @@ module _ (x : Source) (number : ℕ) (out : List ℕ) (a : List Value) where
 
 -- ---- what is printed
 
-module _ (d : Result Given LineRefusal) (number : ℕ) (out : List ℕ) where
-  pub printed : (d' : Result Given LineRefusal) → d ≡ d' → (out' : List ℕ) (r : ℕ) → (out', r) ≡ front out (feature_line number (drawn_answer d')) →
-      ((out', r) ≡ front out (feature_line number (drawn_answer d))) × (r ≤ length out)
-  printed d' e out' r h = (h ∙ ap (λ (d : Result Given LineRefusal). front out (feature_line number (drawn_answer d))) (sym e), front-within _ _ h)
+module _ {R : Type 0} (printed_number printed_place : R → ℕ) (d : Result Given R) (number : ℕ) (out : List ℕ) where
+  abbrev line : Result Given R → List ℕ
+  line d = drawn_line printed_number printed_place number d
+
+  pub printed : (d' : Result Given R) → d ≡ d' → (out' : List ℕ) (r : ℕ) → (out', r) ≡ front out (line d') →
+      ((out', r) ≡ front out (line d)) × (r ≤ length out)
+  printed d' e out' r h = (h ∙ ap (λ (d : Result Given R). front out (line d)) (sym e), front-within _ _ h)
 
 -- ---- a head that is accepted
 

@@ -1,4 +1,7 @@
+use mathlib.Core.Path.{◌∙◌, ap}
 use native.Mathlib.Omega.{arith}
+use Rattle.output.specs.Line.{front}
+use Rattle.painter.proofs.Printed.{drawn-is}
 use Rattle.blocks.proofs.Law.Printing.{asked, at_first, at-end, room-left, known, end-inside, end-behind, on-next, page-is, progress-is, advances}
 use Rattle.blocks.proofs.features.lines.Goals as goal
 
@@ -36,4 +39,5 @@ pub loop-values-preserved : goal.loop-values-preserved
 loop-values-preserved c =
     let s = at-end _ _ _ _ _ _ _ _ _ _ _ _ c.loop-values.invariant _ c.end-end.ensures in
     let more = asked _ _ _ _ _ _ _ _ _ _ _ _ _ s _ _ c.is_whole-whole.ensures c.is_next.ensures _ c.if-not-is_next.false in
-    on-next _ _ _ _ _ _ _ _ _ _ _ _ _ s more _ c.given-drawn.ensures.answer _ _ _ c.line-printed.ensures.is c.given-drawn.ensures.values
+    let printed = c.line-printed.ensures.is ∙ ap (front _) (drawn-is _ _) in
+    on-next _ _ _ _ _ _ _ _ _ _ _ _ _ s more _ c.given-drawn.ensures.answer _ _ _ printed c.given-drawn.ensures.values
