@@ -1,12 +1,13 @@
 -- Definitions for private functions.
-use Rattle.std.specs.Prelude.{Bool, cond, List, [], ◌∷◌, ℕ, Option, Some, None}
+use Rattle.std.specs.Prelude.{Bool, true, false, cond, List, [], ◌∷◌, ℕ, zero, suc, Option, Some, None}
 use Rattle.kind.specs.Kind.{eq_kind}
 use Rattle.kind.specs.declared.kind.Kind.TheVariants as kind
 use Rattle.kind.specs.declared.operation.Operation.{Operation}
 use Rattle.value.specs.Value.{kind_of, truth}
 use Rattle.value.specs.Name.{function_at}
 use Rattle.value.specs.declared.value.Value.{Value}
-use Rattle.tree.specs.Node.{tree_at, arguments_at, most_commas}
+use Rattle.tree.specs.Node.{argument_at, tree_at, arguments_at, most_commas}
+use Rattle.tree.specs.declared.node.Comma.{Comma}
 use Rattle.checker.specs.Operator.{infix_at}
 use Rattle.evaluator.specs.Eval.{applied, branch_of, binary_of, Context, eval_of, eval_of_all}
 use Rattle.evaluator.specs.Arrays.{array_context}
@@ -15,6 +16,18 @@ use Rattle.evaluator.specs.declared.evaluate.Scene.{Scene}
 -- the Boolean that a value is
 abbrev pub boolean_in : Value → Option Bool
 boolean_in v = cond (eq_kind kind.Boolean (kind_of v)) (Some (truth v)) None
+
+-- ---- where the arguments of a call stand
+
+-- by the comma at a place, if one stands there
+abbrev pub over_by : Option Comma → (ℕ → Bool) → Bool
+over_by None rest = false
+over_by (Some c) rest = rest c.rest
+
+-- whether more than n stand at a place: n commas do, one behind the other
+unfoldable pub are_over : ℕ → List ℕ → ℕ → Bool
+are_over zero w p = true
+are_over (suc n) w p = over_by (argument_at w p) (are_over n w)
 
 -- ---- a part of an expression
 

@@ -1,7 +1,7 @@
 // What the tree at a place comes to.
 ghost use Rattle.std.specs.Prelude.{◌≡◌};
 ghost use Rattle.evaluator.specs.Arrays.{evaluated};
-ghost use Rattle.evaluator.specs.Inner.{worked_at, called_at, single_at, binary_at, branch_at};
+ghost use Rattle.evaluator.specs.Inner.{are_over, worked_at, called_at, single_at, binary_at, branch_at};
 
 use crate::literal::literal;
 use crate::need::{Need, need_of, needs_right};
@@ -20,6 +20,20 @@ use value::value::Value;
 // No operation takes more operands.
 const MOST_OPERANDS: usize = 4;
 
+// Whether more arguments stand at a place than so many.
+#[tactic(auto, unfolding(crate::specs::Inner::are_over))]
+fn are_over(slots: &[u16], at: usize, most: usize) -> bool
+    ensures { result ≡ are_over most slots.now at }
+{
+    if most == 0 {
+        return true;
+    }
+    match argument_at(slots, at) {
+        Some(comma) => are_over(slots, comma.rest, most - 1),
+        None => false,
+    }
+}
+
 // What an expression is worked out from. The slots are its own; it lies in the style's text from
 // `base` on, which is to be cut at the expression's end, so that no literal reaches past it. The
 // values are those of the variables' numbers, and the feature's text has their strings.
@@ -33,12 +47,16 @@ pub struct Scene<'a> {
 
 // An allowance says how high a tree may still be.
 impl Scene<'_> {
-    // What a function makes of the arguments at a place.
+    // What a function makes of the arguments at a place. Of too many none is worked out, since slots
+    // that no parser wrote can make that take very long.
     #[cycle(work)]
     fn call(&self, allowance: usize, function: usize, arguments: usize) -> Option<Value>
         ensures { result ≡ called_at self.now allowance function arguments }
     {
         let operation = function_at(function)?;
+        if are_over(self.slots, arguments, MOST_OPERANDS) {
+            return None;
+        }
         let mut operands = ArrayVec::<Value, MOST_OPERANDS>::new();
         let mut at = arguments;
         while let Some(Comma { first, rest }) = argument_at(self.slots, at) {

@@ -1,6 +1,7 @@
 -- What a call comes to whose first arguments have come to values, by what stands where the others begin.
 use Rattle.std.specs.Prelude.{Option, Some, None}
 use mathlib.Core.Path.{◌≡◌, sym, ◌∙◌, ap}
+use mathlib.Core.Bool.{true}
 use mathlib.Core.List.{List, [], ◌∷◌, ◌++◌, map}
 use Prim.Native.Nat.{ℕ, ◌+◌, ◌-◌, ◌≤◌}
 use native.Mathlib.Omega.{arith}
@@ -8,13 +9,20 @@ use lib.ListN.{length}
 use Rattle.kind.specs.declared.operation.Operation.{Operation}
 use Rattle.value.specs.Meaning.{meaning}
 use Rattle.value.specs.declared.value.Value.{Value}
+use Rattle.value.specs.Name.{function_at}
 use Rattle.tree.specs.Node.{argument_at, most_commas, tree_at}
 use Rattle.tree.specs.declared.node.Comma.{Comma}
 use Rattle.evaluator.specs.Eval.{applied}
-use Rattle.evaluator.specs.Inner.{context, worked_at, arguments_of}
+use Rattle.evaluator.specs.Inner.{context, worked_at, arguments_of, called_at, are_over}
 use Rattle.evaluator.specs.declared.evaluate.Scene.{Scene}
-use Rattle.evaluator.proofs.Law.Outcomes.{call-fault, call-over, call-values, one-more}
-use Rattle.evaluator.proofs.Law.Trees.{arguments-last, arguments-next}
+use Rattle.evaluator.proofs.Law.Outcomes.{applied-longer, call-fault, call-over, call-values, one-more}
+use Rattle.evaluator.proofs.Law.Trees.{arguments-last, arguments-next, over-length}
+
+-- more than four arguments are a fault, whatever they come to
+pub called-over : (s : Scene) (allowance function arguments : ℕ) → are_over 4 s.slots.now arguments ≡ true → None ≡ called_at s allowance function arguments
+called-over s allowance function arguments h =
+    let longer = over-length (context s) (tree_at allowance s.slots.now) s.slots.now 4 most_commas arguments (omega arith) h in
+    sym (applied-longer (context s).text (function_at function) _ longer)
 
 -- `outcomes` are those of all the arguments: the values so far, and then what is left
 module _ (s : Scene) (allowance : ℕ) (vs : List Value) (at : ℕ) {outcomes : List (Option Value)} (few : length vs ≤ 4)

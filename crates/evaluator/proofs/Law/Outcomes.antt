@@ -1,21 +1,24 @@
 -- Laws of what nodes come to: an operation on outcomes, a test, and a binary operator by what it needs.
 use Rattle.std.specs.Prelude.{Option, Some, None}
 use mathlib.Core.Path.{◌≡◌, refl, sym, ap}
-use mathlib.Core.Bool.{Bool, true, false, cond}
+use mathlib.Core.Bool.{Bool, true, false, cond, ◌&&◌, beq, true≢false}
 use mathlib.Core.List.{List, [], ◌∷◌, ◌++◌, map}
 use native.Mathlib.Omega.{arith}
 use lib.ListN.{length}
-use Prim.Native.Nat.{ℕ}
+use Prim.Native.Nat.{ℕ, ◌<◌}
 use lib.Dec.{T}
+use Rattle.kind.specs.Kind.{eq_kind}
+use Rattle.kind.specs.declared.kind.Kind.TheVariants as kind
 use Rattle.kind.specs.declared.operation.Logic.TheVariants.{Not, And, Or}
 use Rattle.kind.specs.declared.operation.Operation.{Operation}
 use Rattle.kind.specs.declared.operation.Operation.TheVariants as op
 use Rattle.kind.proofs.Law.Signatures.{over-four}
-use Rattle.value.specs.Value.{kind_of}
+use Rattle.value.specs.Value.{kind_of, truth}
 use Rattle.value.specs.Meaning.{meaning}
 use Rattle.value.specs.declared.value.Span.{Span}
 use Rattle.value.specs.declared.value.Value.{Value}
-use Rattle.evaluator.specs.Eval.{value_in, some_fault, applied, need_of, binary_by}
+use Rattle.value.specs.declared.value.Value.TheVariants.{Boolean}
+use Rattle.evaluator.specs.Eval.{value_in, some_fault, applied, branch_of, boolean_of, need_of, binary_by, came_to, needs_right}
 use Rattle.evaluator.specs.Demand.{needs_both}
 use Rattle.evaluator.specs.declared.need.Need.{Need}
 use Rattle.evaluator.specs.declared.need.Need.TheVariants.{Both, UntilTrue, UntilFalse}
@@ -71,6 +74,14 @@ module _ (text : Span → List ℕ) where
       go true x h = refl
       go false x h = h
 
+  pub applied-longer : (found : Option Operation) (os : List (Option Value)) → 4 < length os → applied text found os ≡ None
+  applied-longer found (a ∷ b ∷ c ∷ d ∷ e ∷ os) h = applied-more found a b c d e os
+  applied-longer found [] h = absurd (omega (arith, h))
+  applied-longer found (a ∷ []) h = absurd (omega (arith, h))
+  applied-longer found (a ∷ b ∷ []) h = absurd (omega (arith, h))
+  applied-longer found (a ∷ b ∷ c ∷ []) h = absurd (omega (arith, h))
+  applied-longer found (a ∷ b ∷ c ∷ d ∷ []) h = absurd (omega (arith, h))
+
 -- one more value
 pub one-more : (vs : List Value) (v : Value) (os : List (Option Value)) → map Some vs ++ Some v ∷ os ≡ map Some (vs ++ v ∷ []) ++ os
 one-more [] v os = refl
@@ -95,7 +106,47 @@ module _ (text : Span → List ℕ) {found : Option Operation} {o : Operation} (
 
 -- ---- a binary operator
 
+-- what came to a Boolean takes its branch
+came : (b : Bool) (o x y : Option Value) → came_to b o ≡ true → branch_of o x y ≡ cond b x y
+came b None x y h = absurd (true≢false (sym h))
+came b (Some v) x y h = go b (eq_kind kind.Boolean (kind_of v)) (truth v) h
+  where
+    go : (b k t : Bool) → k && beq b t ≡ true → ◌≡◌ {A = Option Value} (cond k (cond t x y) None) (cond b x y)
+    go true true true h = refl
+    go true true false h = absurd (true≢false (sym h))
+    go false true true h = absurd (true≢false (sym h))
+    go false true false h = refl
+    go b false t h = absurd (true≢false (sym h))
+
+-- and what did not come to it leaves that branch alone
+not-came : (b : Bool) (o a x y : Option Value) → came_to b o ≡ false → branch_of o (cond b x a) (cond b a x) ≡ branch_of o (cond b y a) (cond b a y)
+not-came b None a x y h = refl
+not-came b (Some v) a x y h = go b (eq_kind kind.Boolean (kind_of v)) (truth v) h
+  where
+    branch : Bool → Bool → Bool → Option Value → Option Value
+    branch b k t z = cond k (cond t (cond b z a) (cond b a z)) None
+
+    go : (b k t : Bool) → k && beq b t ≡ false → branch b k t x ≡ branch b k t y
+    go true true true h = absurd (true≢false h)
+    go true true false h = refl
+    go false true true h = refl
+    go false true false h = absurd (true≢false h)
+    go b false t h = refl
+
 module _ (text : Span → List ℕ) (found : Option Operation) where
+  -- where the right side is not needed, the left decides alone
+  pub left-decides : (n : Need) (l r : Option Value) → needs_right n l ≡ false → binary_by n text found l r ≡ boolean_of l
+  left-decides Both l r h = absurd (true≢false h)
+  left-decides UntilTrue l r h = not-came false l (Some (Boolean true)) (boolean_of r) (Some (Boolean false)) h
+  left-decides UntilFalse l r h = not-came true l (Some (Boolean false)) (boolean_of r) (Some (Boolean true)) h
+
+  -- and where it is needed, what both come to
+  pub right-decides : (n : Need) (l r : Option Value) → needs_right n l ≡ true →
+      binary_by n text found l r ≡ cond (needs_both n) (applied text found (l ∷ r ∷ [])) (boolean_of r)
+  right-decides Both l r h = refl
+  right-decides UntilTrue l r h = came false l _ _ h
+  right-decides UntilFalse l r h = came true l _ _ h
+
   -- one that needs both is the operation on them
   pub both-needed : (n : Need) (l r : Option Value) → T (needs_both n) → binary_by n text found l r ≡ applied text found (l ∷ r ∷ [])
   both-needed Both l r h = refl

@@ -1,19 +1,22 @@
 -- What the tree at a place comes to, by its node; and the arguments of a call, by what stands at a place.
 use Rattle.std.specs.Prelude.{Option, Some, None}
-use mathlib.Core.Path.{◌≡◌, refl}
+use mathlib.Core.Path.{◌≡◌, refl, sym}
+use mathlib.Core.Bool.{true, true≢false}
 use mathlib.Core.List.{List, [], ◌∷◌}
-use Prim.Native.Nat.{ℕ, zero, suc, ◌-◌, ◌<◌}
+use Prim.Native.Nat.{ℕ, zero, suc, ◌-◌, ◌<◌, ◌≤◌}
+use lib.ListN.{length}
 use native.Mathlib.Omega.{arith}
 use native.Mathlib.Numerals.{sub-one}
 use Rattle.value.specs.Name.{function_at, pick_at}
-use Rattle.tree.specs.Tree.{Tree, Arguments}
-use Rattle.tree.specs.Node.{node_at, argument_at, arguments_at, grown, most_commas, tree_at}
+use Rattle.tree.specs.Tree.{Tree, Arguments, last, next}
+use Rattle.tree.specs.Node.{node_at, argument_at, argued, arguments_at, grown, most_commas, tree_at}
 use Rattle.tree.specs.declared.node.Node.{Node}
 use Rattle.tree.specs.declared.node.Node.TheVariants.{Literal, Variable, Unary, Binary, Conditional, Bare, Call, Pick}
 use Rattle.tree.specs.declared.node.Comma.{Comma}
 use Rattle.syntax.proofs.Law.Nodes.{tree-step}
 use Rattle.checker.specs.Operator.{prefix_at, infix_at}
 use Rattle.evaluator.specs.Eval.{Context, applied, branch_of, binary_of, eval_of, eval_of_all}
+use Rattle.evaluator.specs.Inner.{over_by, are_over}
 use Rattle.value.specs.declared.value.Value.{Value}
 
 -- ---- a tree by its node
@@ -61,3 +64,21 @@ module _ (c : Context) (tree : ℕ → Tree) (w : List ℕ) (p : ℕ) where
   unfolding arguments_at eval_of
   arguments-next zero e xs k h = absurd (omega (arith, k))
   arguments-next (suc n) e xs k h = rw (h, sub-one (suc n))
+
+-- of more than k arguments more than k things come
+module _ (c : Context) (tree : ℕ → Tree) (w : List ℕ) where
+  some-outcome : (xs : Arguments) → 0 < length (eval_of_all c xs)
+  unfolding eval_of
+  some-outcome (last e) = omega arith
+  some-outcome (next e q xs) = omega arith
+
+  pub over-length : (k n p : ℕ) → k ≤ n → are_over k w p ≡ true → k < length (eval_of_all c (arguments_at tree n w p))
+  unfolding are_over arguments_at eval_of
+  over-length zero n p l h = some-outcome (arguments_at tree n w p)
+  over-length (suc k) zero p l h = absurd (omega (arith, l))
+  over-length (suc k) (suc n) p l h = go (argument_at w p) (λ q j. over-length k n q (omega (arith, l)) j) h
+    where
+      go : (a : Option Comma) → ((q : ℕ) → are_over k w q ≡ true → k < length (eval_of_all c (arguments_at tree n w q))) →
+          over_by a (are_over k w) ≡ true → suc k < length (eval_of_all c (argued a p tree (arguments_at tree n w)))
+      go None f h = absurd (true≢false (sym h))
+      go (Some x) f h = let m = f x.rest h in omega (arith, m)

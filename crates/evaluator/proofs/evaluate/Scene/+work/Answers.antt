@@ -2,10 +2,14 @@ use mathlib.Core.Path.{sym, ◌∙◌}
 use native.Mathlib.Omega.{arith}
 use Rattle.tree.specs.Node.{tree_at}
 use Rattle.evaluator.specs.Eval.{eval_of}
-use Rattle.evaluator.proofs.Law.Calls.{next-more, next-fault, next-over, last-fault, last-over, last-values}
+use Rattle.evaluator.proofs.Law.Calls.{called-over, next-more, next-fault, next-over, last-fault, last-over, last-values}
 use Rattle.evaluator.proofs.Law.Tries.{was-ok, was-in, was-err}
 use Rattle.evaluator.proofs.Law.Trees.{eval-step}
 use Rattle.evaluator.proofs.evaluate.Scene.+work.Goals as goal
+
+pub call-returns-then-are_over : goal.call-returns-then-are_over
+call-returns-then-are_over t c =
+    called-over c.args.self.now c.args.allowance c.args.function c.args.arguments (sym c.are_over.ensures ∙ c.if-are_over.true)
 
 pub call-returns-in_err-work : goal.call-returns-in_err-work
 call-returns-in_err-work t c =
