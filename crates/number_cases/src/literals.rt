@@ -84,5 +84,11 @@ fn text_agrees(case: &Case<'_, impl Print>, text: &[u8], at: u64) -> bool {
 }
 
 pub(crate) fn next(rt: &impl Print, file: &mut impl Read, name: &str) -> Option<bool> {
-    case::next(rt, file, name.as_bytes(), &mut [0u8; LINE], |case, _| agrees(case))
+    case::next(
+        rt,
+        file,
+        name.as_bytes(),
+        &mut [0u8; LINE],
+        |case, _| agrees(case),
+    )
 }
