@@ -84,12 +84,15 @@ fn read_part(file: &mut impl Read, values: &mut [Parts; UNDECLARED]) -> Option<(
 }
 
 // The values that so many parts make. A number that none is for stays Undefined.
-fn read_values(file: &mut impl Read, count: u64) -> Option<Values> {
-    let mut values = [NONE; UNDECLARED];
+fn read_values(file: &mut impl Read, count: u64, values: &mut Values) -> Option<()> {
+    let mut read = [NONE; UNDECLARED];
     for _ in 0..count {
-        read_part(file, &mut values)?;
+        read_part(file, &mut read)?;
     }
-    Some(values.map(|parts| parts.value()))
+    for (value, parts) in values.iter_mut().zip(&read) {
+        *value = parts.value();
+    }
+    Some(())
 }
 
 fn outcome_agrees(
@@ -128,7 +131,8 @@ fn line_agrees(
     let mut feature = [0u8; read::MOST];
     let mut wanted = [0u8; read::MOST];
     let feature = read::text(file, &mut feature, line::number(line, 0, 3) as usize)?;
-    let values = read_values(file, line::number(line, 4, 6))?;
+    let mut values = [Value::Undefined; UNDECLARED];
+    read_values(file, line::number(line, 4, 6), &mut values)?;
     let texts = Texts { style, feature };
     let scene = Scene {
         texts,
